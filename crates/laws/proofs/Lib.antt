@@ -1,0 +1,7 @@
+pub mod Tests
+pub mod Lists
+pub mod Ascending
+pub mod Table
+pub mod Parts
+pub mod Same
+pub mod Stores

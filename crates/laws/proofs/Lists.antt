@@ -1,0 +1,317 @@
+-- Laws of lists picked by a test, of any, all and how many of their elements, and of sorting by a key: by cases on the test, with `decide`.
+use mathlib.Core.Path.{_≡_, refl, sym, ap, ap₂, _∙_}
+use mathlib.Core.Bool.{Bool, true, false, cond, not, _&&_, _||_, and-comm, and-assoc, false≢true}
+use mathlib.Core.Option.{Option, none, some}
+use mathlib.Core.List.{List, [], _∷_, _++_, map, append-assoc, append-nil}
+use Prim.Native.Nat.{ℕ, zero, suc, _+_, _<_, _≤_}
+use native.Mathlib.Omega.{arith}
+use lib.ListN.{length, take, drop, getD}
+use lib.Dec.{ltb, eqb}
+use borrow.Author.Tests.{eqb-true, ltb-true, ltb-false, lt-ltb, le-ltb, eqb-false, eq-eqb, ne-eqb, not-true}
+use Rattle.laws.specs.Lists.{keep, anyOf, allOf, count, isNone, total}
+use Rattle.laws.specs.Ascending.{below, above, insert, ascending}
+use Rattle.laws.proofs.Tests.{both, and-left, and-right}
+
+-- by cases on a test
+pub decide {ℓ} : {P : Type ℓ} (t : Bool) → (t ≡ true → P) → (t ≡ false → P) → P
+decide true a b = a refl
+decide false a b = b refl
+
+-- what holds of both arms holds of the test's choice
+pub cond-elim : {A : Type 0} (P : A → Type 0) (t : Bool) {x y : A} → (t ≡ true → P x) → (t ≡ false → P y) → P (cond t x y)
+cond-elim P true a b = a refl
+cond-elim P false a b = b refl
+
+-- a number is its own equal, and unequal both ways
+pub eqb-refl : (n : ℕ) → eqb n n ≡ true
+eqb-refl n = eq-eqb n n refl
+
+pub eqb-sym : (m n : ℕ) → eqb m n ≡ false → eqb n m ≡ false
+eqb-sym m n e = ne-eqb n m (λ p. eqb-false m n e (sym p))
+
+-- a test that asks nothing of the element keeps all or none
+pub keep-const : {A : Type 0} (t : Bool) (l : List A) → keep (λ x. t) l ≡ cond t l []
+keep-const true [] = refl
+keep-const true (x ∷ l) = ap (λ r. x ∷ r) (keep-const true l)
+keep-const false [] = refl
+keep-const false (x ∷ l) = keep-const false l
+
+-- the elements that pass: tests that agree, a test after another, a test that none passes, and two lists
+module _ {A : Type 0} where
+  pub keep-ext : (p q : A → Bool) → ((x : A) → p x ≡ q x) → (l : List A) → keep p l ≡ keep q l
+  keep-ext p q h [] = refl
+  keep-ext p q h (x ∷ l) = simp (h x, keep-ext p q h l)
+
+  pub keep-keep : (p q : A → Bool) (l : List A) → keep p (keep q l) ≡ keep (λ x. q x && p x) l
+  keep-keep p q [] = refl
+  keep-keep p q (x ∷ l) = decide (q x) (λ e. simp (e, keep-keep p q l)) (λ e. simp (e, keep-keep p q l))
+
+  pub keep-none : (p : A → Bool) → ((x : A) → p x ≡ false) → (l : List A) → keep p l ≡ []
+  keep-none p h l = keep-ext p (λ x. false) h l ∙ keep-const false l
+
+  pub keep-append : (p : A → Bool) (l m : List A) → keep p (l ++ m) ≡ keep p l ++ keep p m
+  keep-append p [] m = refl
+  keep-append p (x ∷ l) m = decide (p x) (λ e. simp (e, keep-append p l m)) (λ e. simp (e, keep-append p l m))
+
+  pub keep-comm : (p q : A → Bool) (l : List A) → keep p (keep q l) ≡ keep q (keep p l)
+  keep-comm p q l = keep-keep p q l ∙ keep-ext _ _ (λ x. and-comm (q x) (p x)) l ∙ sym (keep-keep q p l)
+
+-- a function on two lists
+pub map-append : {A B : Type 0} (f : A → B) (l m : List A) → map f (l ++ m) ≡ map f l ++ map f m
+map-append f [] m = refl
+map-append f (x ∷ l) m = ap (λ r. f x ∷ r) (map-append f l m)
+
+-- a second test that all of those pass, or none
+module _ {A : Type 0} where
+  pub keep-implied : (p q : A → Bool) → ((x : A) → p x ≡ true → q x ≡ true) → (l : List A) → keep q (keep p l) ≡ keep p l
+  keep-implied p q h [] = refl
+  keep-implied p q h (x ∷ l) = decide (p x) (λ e. simp (e, h x e, keep-implied p q h l)) (λ e. simp (e, keep-implied p q h l))
+
+  pub keep-excluded : (p q : A → Bool) → ((x : A) → p x ≡ true → q x ≡ false) → (l : List A) → keep q (keep p l) ≡ []
+  keep-excluded p q h [] = refl
+  keep-excluded p q h (x ∷ l) = decide (p x) (λ e. simp (e, h x e, keep-excluded p q h l)) (λ e. simp (e, keep-excluded p q h l))
+
+-- any and all of a list's elements
+module _ {A : Type 0} (p : A → Bool) where
+  pub any-append : (l m : List A) → anyOf p (l ++ m) ≡ (anyOf p l || anyOf p m)
+  any-append [] m = refl
+  any-append (x ∷ l) m = decide (p x) (λ e. simp e) (λ e. simp (e, any-append l m))
+
+  -- where none passes, neither does the first nor one of the others
+  pub any-head : (x : A) (l : List A) → anyOf p (x ∷ l) ≡ false → p x ≡ false
+  any-head x l h = decide (p x) (λ e. e ∙ (simp e at h)) (λ e. e)
+
+  pub any-tail : (x : A) (l : List A) → anyOf p (x ∷ l) ≡ false → anyOf p l ≡ false
+  any-tail x l h = simp (any-head x l h) at h
+
+  pub all-append : (l m : List A) → allOf p (l ++ m) ≡ allOf p l && allOf p m
+  all-append [] m = refl
+  all-append (x ∷ l) m = rw (all-append l m) (sym (and-assoc (p x) (allOf p l) (allOf p m)))
+
+  -- all of a list pass: so do all of its parts, and the one at each place
+  pub all-take : (k : ℕ) (l : List A) → allOf p l ≡ true → allOf p (take k l) ≡ true
+  all-take zero l h = refl
+  all-take (suc k) [] h = refl
+  all-take (suc k) (x ∷ l) h = both (and-left (p x) (allOf p l) h) (all-take k l (and-right (p x) (allOf p l) h))
+
+  pub all-drop : (k : ℕ) (l : List A) → allOf p l ≡ true → allOf p (drop k l) ≡ true
+  all-drop zero l h = h
+  all-drop (suc k) [] h = refl
+  all-drop (suc k) (x ∷ l) h = all-drop k l (and-right (p x) (allOf p l) h)
+
+  pub all-getD : (l : List A) (i : ℕ) (d : A) → p d ≡ true → allOf p l ≡ true → p (getD l i d) ≡ true
+  all-getD [] i d e h = e
+  all-getD (x ∷ l) zero d e h = and-left (p x) (allOf p l) h
+  all-getD (x ∷ l) (suc i) d e h = all-getD l i d e (and-right (p x) (allOf p l) h)
+
+  pub all-keep : (q : A → Bool) (l : List A) → allOf p l ≡ true → allOf p (keep q l) ≡ true
+  all-keep q [] h = refl
+  all-keep q (x ∷ l) h =
+      let t = all-keep q l (and-right (p x) (allOf p l) h) in
+      decide (q x) (λ e. simp (e, and-left (p x) (allOf p l) h, t)) (λ e. simp (e, t))
+
+  -- a test that p implies
+  module _ (q : A → Bool) (h : (x : A) → p x ≡ true → q x ≡ true) where
+    pub all-implied : (l : List A) → allOf p l ≡ true → allOf q l ≡ true
+    all-implied [] e = refl
+    all-implied (x ∷ l) e = both (h x (and-left (p x) (allOf p l) e)) (all-implied l (and-right (p x) (allOf p l) e))
+
+    pub all-kept : (l : List A) → allOf q (keep p l) ≡ true
+    all-kept [] = refl
+    all-kept (x ∷ l) = decide (p x) (λ e. simp (e, h x e, all-kept l)) (λ e. simp (e, all-kept l))
+
+  -- how many pass
+  pub count-length : (l : List A) → count p l ≡ length (keep p l)
+  count-length [] = refl
+  count-length (x ∷ l) = decide (p x) (λ e. simp e (omega (arith, count-length l))) (λ e. simp e (omega (arith, count-length l)))
+
+  pub count-append : (l m : List A) → count p (l ++ m) ≡ count p l + count p m
+  count-append [] m = omega arith
+  count-append (x ∷ l) m = omega (arith, count-append l m)
+
+  pub count-split : (q : A → Bool) (l : List A) → count p (keep q l) + count p (keep (λ x. not (q x)) l) ≡ count p l
+  count-split q [] = refl
+  count-split q (x ∷ l) = decide (q x) (λ e. simp e (omega (arith, count-split q l))) (λ e. simp e (omega (arith, count-split q l)))
+
+  pub length-split : (l : List A) → length (keep p l) + length (keep (λ x. not (p x)) l) ≡ length l
+  length-split [] = refl
+  length-split (x ∷ l) = decide (p x) (λ e. simp e (omega (arith, length-split l))) (λ e. simp e (omega (arith, length-split l)))
+
+-- the sum of two lists
+pub total-append : (l m : List ℕ) → total (l ++ m) ≡ total l + total m
+total-append [] m = omega arith
+total-append (x ∷ l) m = omega (arith, total-append l m)
+
+-- an option without a value
+pub none-is : {A : Type 0} (x : Option A) → isNone x ≡ true → x ≡ none
+none-is none e = refl
+none-is (some x) e = absurd (false≢true e)
+
+-- the tests for a key below k and for one that is not
+module _ {A : Type 0} (key : A → ℕ) where
+  below-at : (k : ℕ) (y : A) → key y < k → below key k y ≡ true
+  unfolding below
+  below-at k y h = lt-ltb _ _ h
+
+  below-not : (k : ℕ) (y : A) → k ≤ key y → below key k y ≡ false
+  unfolding below
+  below-not k y h = le-ltb _ _ h
+
+  above-at : (k : ℕ) (y : A) → k ≤ key y → above key k y ≡ true
+  unfolding above
+  above-at k y h = ap not (le-ltb _ _ h)
+
+  above-not : (k : ℕ) (y : A) → key y < k → above key k y ≡ false
+  unfolding above
+  above-not k y h = ap not (lt-ltb _ _ h)
+
+  from-below : (k : ℕ) (y : A) → below key k y ≡ true → key y < k
+  unfolding below
+  from-below k y e = ltb-true _ _ e
+
+  from-above : (k : ℕ) (y : A) → above key k y ≡ true → k ≤ key y
+  unfolding above
+  from-above k y e = ltb-false _ _ (not-true _ e)
+
+  insert-is : (x : A) (l : List A) → insert key x l ≡ keep (below key (key x)) l ++ x ∷ keep (above key (key x)) l
+  unfolding insert
+  insert-is x l = refl
+
+  below-below : (j k : ℕ) → j ≤ k → (l : List A) → keep (below key k) (keep (below key j) l) ≡ keep (below key j) l
+  below-below j k h l = keep-implied _ _ (λ x e. below-at k x (omega (arith, from-below j x e))) l
+
+  above-above : (j k : ℕ) → j ≤ k → (l : List A) → keep (above key j) (keep (above key k) l) ≡ keep (above key k) l
+  above-above j k h l = keep-implied _ _ (λ x e. above-at j x (omega (arith, from-above k x e))) l
+
+  below-above : (j k : ℕ) → j ≤ k → (l : List A) → keep (below key j) (keep (above key k) l) ≡ []
+  below-above j k h l = keep-excluded _ _ (λ x e. below-not j x (omega (arith, from-above k x e))) l
+
+  above-below : (j k : ℕ) → j ≤ k → (l : List A) → keep (above key k) (keep (below key j) l) ≡ []
+  above-below j k h l = keep-excluded _ _ (λ x e. above-not k x (omega (arith, from-below j x e))) l
+
+  -- insertions of two keys commute
+  insert-lt : (a b : A) (l : List A) → key a < key b → insert key a (insert key b l) ≡ insert key b (insert key a l)
+  insert-lt a b l h =
+      simp (
+        insert-is,
+        keep-append,
+        below-not (key a) b (omega arith),
+        above-at (key a) b (omega arith),
+        below-at (key b) a h,
+        above-not (key b) a h,
+        below-above (key a) (key b) (omega arith) l,
+        above-below (key a) (key b) (omega arith) l,
+        append-nil,
+      )
+      (simp (keep-comm (below key (key a)) (below key (key b)) l, keep-comm (above key (key a)) (below key (key b)) l, keep-comm (above key (key a)) (above key (key b)) l, append-assoc))
+
+  pub insert-comm : (a b : A) (l : List A) → eqb (key a) (key b) ≡ false → insert key a (insert key b l) ≡ insert key b (insert key a l)
+  insert-comm a b l h =
+      decide (ltb (key a) (key b)) (λ e. insert-lt a b l (ltb-true _ _ e))
+      (λ e. sym (insert-lt b a l (omega (arith, ltb-false (key a) (key b) e, eqb-false (key a) (key b) h))))
+
+  -- a sorted list falls apart at each key
+  abbrev Splits : List A → Type 0
+  Splits l = (k : ℕ) → keep (below key k) l ++ keep (above key k) l ≡ l
+
+  splits-keep : (q : A → Bool) (k : ℕ) (l : List A) → Splits l → keep (below key k) (keep q l) ++ keep (above key k) (keep q l) ≡ keep q l
+  splits-keep q k l h = simp (keep-comm (below key k) q l, keep-comm (above key k) q l) (sym (keep-append q (keep (below key k) l) (keep (above key k) l)) ∙ ap (keep q) (h k))
+
+  splits-insert : (x : A) (l : List A) → Splits l → Splits (insert key x l)
+  splits-insert x l h k =
+      decide (ltb (key x) k)
+      (λ e. let lt : key x < k = ltb-true _ _ e in
+      simp (
+        insert-is,
+        keep-append,
+        below-at k x lt,
+        above-not k x lt,
+        append-assoc,
+        below-below (key x) k (omega arith) l,
+        above-below (key x) k (omega arith) l,
+        splits-keep (above key (key x)) k l h,
+      ))
+      (λ e. let ge : k ≤ key x = ltb-false _ _ e in
+      simp (insert-is, keep-append, below-not k x ge, above-at k x ge, below-above k (key x) ge l, above-above k (key x) ge l, append-nil, ← append-assoc)
+      (simp (splits-keep (below key (key x)) k l h)))
+
+  splits-ascending : (l : List A) → Splits (ascending key l)
+  splits-ascending [] k = refl
+  splits-ascending (x ∷ l) k = splits-insert x (ascending key l) (splits-ascending l) k
+
+  -- to pick from a sorted list is to sort what is picked
+  pub keep-ascending : (p : A → Bool) (l : List A) → keep p (ascending key l) ≡ ascending key (keep p l)
+  keep-ascending p [] = refl
+  keep-ascending p (x ∷ l) =
+      decide (p x)
+      (λ e. simp (e, insert-is, keep-append, keep-comm p (below key (key x)) (ascending key l), keep-comm p (above key (key x)) (ascending key l), keep-ascending p l))
+      (λ e. simp (e, insert-is, keep-append, keep-comm p (below key (key x)) (ascending key l), keep-comm p (above key (key x)) (ascending key l), keep-ascending p l)
+      (splits-ascending (keep p l) (key x)))
+
+-- what a loop needs that writes a sorted list by looking for the next key: x is the only element of its key, and none lies from k up to it
+module _ {A : Type 0} (key : A → ℕ) (l : List A) where
+  only-key : (x : A) (s : List A) → keep (below key (suc (key x))) (keep (above key (key x)) s) ≡ keep (λ y. eqb (key y) (key x)) s
+  only-key x s =
+      keep-keep (below key (suc (key x))) (above key (key x)) s
+      ∙ keep-ext (λ y. above key (key x) y && below key (suc (key x)) y) (λ y. eqb (key y) (key x))
+      (λ y. decide (eqb (key y) (key x))
+      (λ e. let q = eqb-true (key y) (key x) e in simp (e, above-at key (key x) y (omega arith), below-at key (suc (key x)) y (omega arith)))
+      (λ e. let q = eqb-false (key y) (key x) e in
+      decide (ltb (key y) (key x))
+      (λ b. simp (e, above-not key (key x) y (ltb-true (key y) (key x) b)))
+      (λ b. let ge = ltb-false (key y) (key x) b in simp (e, below-not key (suc (key x)) y (omega (arith, q)), above-at key (key x) y ge)))) s
+
+  pub ascending-next : (k : ℕ) (x : A) → k ≤ key x → keep (λ y. eqb (key y) (key x)) l ≡ x ∷ [] → keep (above key k) (keep (below key (key x)) l) ≡ []
+      → keep (above key k) (ascending key l) ≡ x ∷ keep (above key (suc (key x))) (ascending key l)
+  unfolding insert
+  ascending-next k x h only skipped =
+      let i = key x in
+      let s = ascending key l in
+      let low : keep (above key k) (keep (below key i) s) ≡ [] =
+      ap (keep (above key k)) (keep-ascending key (below key i) l) ∙ keep-ascending key (above key k) (keep (below key i) l) ∙ ap (ascending key) skipped in
+      let here : keep (below key (suc i)) (keep (above key i) s) ≡ x ∷ [] =
+      only-key x s ∙ keep-ascending key (λ y. eqb (key y) i) l ∙ ap (ascending key) only in
+      let high : keep (above key (suc i)) (keep (above key i) s) ≡ keep (above key (suc i)) s =
+      keep-comm (above key (suc i)) (above key i) s ∙ above-above key i (suc i) (omega arith) s in
+      ap (keep (above key k)) (sym (splits-ascending key l i))
+      ∙ keep-append (above key k) (keep (below key i) s) (keep (above key i) s)
+      ∙ ap₂ (λ (a b : List A). a ++ b) low (above-above key k i h s)
+      ∙ sym (splits-keep key (above key i) (suc i) s (splits-ascending key l))
+      ∙ ap₂ (λ (a b : List A). a ++ b) here high
+
+  pub ascending-end : (k : ℕ) → keep (above key k) l ≡ [] → keep (above key k) (ascending key l) ≡ []
+  ascending-end k h = keep-ascending key (above key k) l ∙ ap (ascending key) h
+
+-- a function that leaves the key
+module _ {A B : Type 0} (f : A → B) (key : A → ℕ) (key′ : B → ℕ) (same : (x : A) → key′ (f x) ≡ key x) where
+  pub map-keep : (p : A → Bool) (q : B → Bool) → ((x : A) → q (f x) ≡ p x) → (l : List A) → map f (keep p l) ≡ keep q (map f l)
+  map-keep p q h [] = refl
+  map-keep p q h (x ∷ l) = decide (p x) (λ e. simp (h x, e, map-keep p q h l)) (λ e. simp (h x, e, map-keep p q h l))
+
+  pub map-insert : (x : A) (l : List A) → map f (insert key x l) ≡ insert key′ (f x) (map f l)
+  unfolding insert below above
+  map-insert x l =
+      simp (
+        map-append,
+        same x,
+        map-keep (below key (key x)) (below key′ (key x)) (λ y. ap (λ n. ltb n (key x)) (same y)) l,
+        map-keep (above key (key x)) (above key′ (key x)) (λ y. ap (λ n. not (ltb n (key x))) (same y)) l,
+      )
+
+  pub map-ascending : (l : List A) → map f (ascending key l) ≡ ascending key′ (map f l)
+  map-ascending [] = refl
+  map-ascending (x ∷ l) = map-insert x (ascending key l) ∙ ap (insert key′ (f x)) (map-ascending l)
+
+-- what passes p passes q once f is done to it
+pub all-map : {A B : Type 0} (p : A → Bool) (q : B → Bool) (f : A → B) → ((x : A) → p x ≡ true → q (f x) ≡ true) → (l : List A) → allOf p l ≡ true → allOf q (map f l) ≡ true
+all-map p q f h [] k = refl
+all-map p q f h (x ∷ l) k = both (h x (and-left (p x) (allOf p l) k)) (all-map p q f h l (and-right (p x) (allOf p l) k))
+
+pub count-map : {A B : Type 0} (p : B → Bool) (f : A → B) (l : List A) → count p (map f l) ≡ count (λ x. p (f x)) l
+count-map p f [] = refl
+count-map p f (x ∷ l) = omega (arith, count-map p f l)
+
+-- two tests that agree where t passes count the same of what t keeps
+pub count-kept : {A : Type 0} (p q t : A → Bool) → ((x : A) → t x ≡ true → p x ≡ q x) → (l : List A) → count p (keep t l) ≡ count q (keep t l)
+count-kept p q t h [] = refl
+count-kept p q t h (x ∷ l) = decide (t x) (λ e. simp (e, h x e) (omega (arith, count-kept p q t h l))) (λ e. simp e (count-kept p q t h l))

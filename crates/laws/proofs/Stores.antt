@@ -1,0 +1,75 @@
+-- Laws of runs of stores: two runs are one, by `sets-append`; all others follow from it and the library's `sets-eq`.
+use mathlib.Core.Path.{_≡_, refl, _∙_}
+use mathlib.Core.List.{List, [], _∷_, _++_, append-assoc}
+use Prim.Native.Nat.{ℕ, suc, _+_, _*_, _-_, _≤_}
+use native.Mathlib.Nat.{zero-add, add-zero, add-suc, suc-add}
+use native.Mathlib.Omega.{arith}
+use lib.ListN.{length, take, drop, set, length-append, length-drop}
+use lib.Seq.{sets, sets-eq, length-sets, take-all, drop-drop, length-take-le}
+use Rattle.laws.specs.Parts.{part, put, zeros, blocks}
+use Rattle.laws.specs.Stores.{Wrote}
+use Rattle.laws.proofs.Parts.{part-mid, zero-length, zeros-append, blocks-length, blocks-more}
+
+-- two runs of stores, one after the other, are one
+pub sets-append : (d : List ℕ) (i : ℕ) (xs ys : List ℕ) → sets (sets d i xs) (i + length xs) ys ≡ sets d i (xs ++ ys)
+sets-append d i [] ys = rw add-zero
+sets-append d i (x ∷ xs) ys = rw (add-suc i (length xs), ← suc-add i (length xs)) (sets-append (set d i x) (suc i) xs ys)
+
+-- the same where the first run's length is a number n
+pub sets-next : (d : List ℕ) (i n : ℕ) (xs ys : List ℕ) → length xs ≡ n → sets (sets d i xs) (i + n) ys ≡ sets d i (xs ++ ys)
+sets-next d i n xs ys h = rw (← h) (sets-append d i xs ys)
+
+-- four runs of stores, each a number of places from the first
+pub sets-four : (d : List ℕ) {d₁ d₂ d₃ d₄ : List ℕ} (i k l m : ℕ) (a b c e : List ℕ) → length a ≡ k → length a + length b ≡ l → length a + length b + length c ≡ m
+    → d₁ ≡ sets d i a → d₂ ≡ sets d₁ (i + k) b → d₃ ≡ sets d₂ (i + l) c → d₄ ≡ sets d₃ (i + m) e → d₄ ≡ sets d i (a ++ (b ++ (c ++ e)))
+sets-four d i k l m a b c e x y z p q r s =
+    s ∙ rw (r, q, p)
+    (rw (sets-next d i k a b x)
+    (rw (sets-next d i l (a ++ b) c (rw length-append y))
+    (rw (sets-next d i m (a ++ b ++ c) e (rw (length-append, length-append) z))
+    (simp append-assoc))))
+
+-- pieces of w numbers, stored one after the other
+pub sets-blocks : (f : ℕ → List ℕ) (w : ℕ) → ((k : ℕ) → length (f k) ≡ w) → (d : List ℕ) (i n : ℕ)
+    → sets (sets d i (blocks n f)) (i + w * n) (f n) ≡ sets d i (blocks (n + 1) f)
+sets-blocks f w each d i n = rw (blocks-more n f) (sets-next d i (w * n) (blocks n f) (f n) (blocks-length w f each n))
+
+-- a run that is cleared, one number after the other
+pub sets-zeros : (d : List ℕ) (i n : ℕ) → set (sets d i (zeros n)) (i + n) 0 ≡ sets d i (zeros (n + 1))
+unfolding zeros
+sets-zeros d i n = rw (← zeros-append n 1) (sets-next d i n (zeros n) (zeros 1) (zero-length n))
+
+-- the rest of a list, as a part that starts in the middle
+pub rest : (k : ℕ) (s : List ℕ) → take (length s - k) (drop k s) ≡ drop k s
+rest k s = take-all (length s - k) (drop k s) (rw length-drop (omega arith))
+
+-- a run of stores that fits is another part, and what was stored is there
+module _ (d xs : List ℕ) (i : ℕ) (fits : i + length xs ≤ length d) where
+  pub sets-put : sets d i xs ≡ put i (length xs) d xs
+  sets-put = sets-eq xs d i fits ∙ simp (append-assoc, drop-drop)
+
+  pub part-sets : part i (length xs) (sets d i xs) ≡ xs
+  part-sets = rw sets-put (part-mid (take i d) xs (drop (length xs) (drop i d)) i (length xs) (length-take-le i d (omega arith)) refl)
+
+pub take-sets : (d xs : List ℕ) → length xs ≤ length d → take (length xs) (sets d 0 xs) ≡ xs
+take-sets d xs h = part-sets d xs 0 (rw zero-add h)
+
+-- nothing written; one run of stores; one run of bytes after another; one more piece behind n
+pub wrote-none : (d : List ℕ) (at : ℕ) → Wrote d d at at []
+wrote-none d at = record { next = omega arith; whole = refl }
+
+pub wrote-sets : {d e : List ℕ} (at n : ℕ) (xs : List ℕ) → length xs ≡ n → e ≡ sets d at xs → Wrote d e at (at + n) xs
+wrote-sets at n xs h e = record { next = rw h; whole = e }
+
+pub wrote-append : {d e f : List ℕ} {at m r : ℕ} (xs ys : List ℕ) → Wrote d e at m xs → Wrote e f m r ys → Wrote d f at r (xs ++ ys)
+wrote-append {d} {at = at} xs ys p q = record {
+  next = rw length-append (omega arith);
+  whole = q .whole ∙ rw (p .whole, p .next) (sets-append d at xs ys);
+}
+
+pub wrote-blocks : {d e g : List ℕ} {at m r : ℕ} (f : ℕ → List ℕ) (n : ℕ) → Wrote d e at m (blocks n f) → Wrote e g m r (f n) → Wrote d g at r (blocks (n + 1) f)
+wrote-blocks f n p q = rw (blocks-more n f) (wrote-append (blocks n f) (f n) p q)
+
+-- writing leaves the length
+pub wrote-length : {d e : List ℕ} {at r : ℕ} {xs : List ℕ} → Wrote d e at r xs → length e ≡ length d
+wrote-length {d} {at = at} {xs = xs} p = rw (p .whole) (length-sets d at xs)

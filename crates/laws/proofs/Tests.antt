@@ -1,0 +1,148 @@
+-- Laws of tests: both of two, of numbers, and of the bounded tests in the form that a loop which counts up wants (nothing yet, one more, the way out).
+use mathlib.Core.Path.{_≡_, refl, sym, _∙_}
+use mathlib.Core.Bool.{Bool, true, false, _&&_, and-false, and-eq-true-iff, true≢false, false≢true}
+use mathlib.Core.Option.{Option, none, some}
+use Prim.Native.Nat.{ℕ, zero, suc, _+_, _≤_, _<_}
+use native.Mathlib.Numerals.{add-one}
+use native.Mathlib.Decide.{le-ind}
+use native.Mathlib.Omega.{arith}
+use lib.Dec.{leb}
+use borrow.Author.Tests.{le-leb, lt-leb, leb-true}
+use Rattle.laws.specs.Tests.{within, allBelow, first}
+
+-- a test is not true and false
+pub never : {P : Type 0} → _≡_ {A = Bool} true false → P
+never e = absurd (true≢false e)
+
+-- a test that is not true is false, and one that is not false is true
+pub ne-true : (t : Bool) → (t ≡ true → ⊥) → t ≡ false
+ne-true true h = absurd (h refl)
+ne-true false h = refl
+
+pub ne-false : (t : Bool) → (t ≡ false → ⊥) → t ≡ true
+ne-false true h = refl
+ne-false false h = absurd (h refl)
+
+-- two tests of which each holds where the other does are one
+pub tests-same : (a b : Bool) → (a ≡ true → b ≡ true) → (b ≡ true → a ≡ true) → a ≡ b
+tests-same true b to from = sym (to refl)
+tests-same false b to from = sym (ne-true b (λ e. false≢true (from e)))
+
+pub leb-same : (a b c d : ℕ) → (a ≤ b → c ≤ d) → (c ≤ d → a ≤ b) → leb a b ≡ leb c d
+leb-same a b c d to from = tests-same (leb a b) (leb c d) (λ e. le-leb c d (to (leb-true a b e))) (λ e. le-leb a b (from (leb-true c d e)))
+
+-- both of two tests
+pub both : {a b : Bool} → a ≡ true → b ≡ true → a && b ≡ true
+both p q = rw (p, q)
+
+pub and-left : (a b : Bool) → a && b ≡ true → a ≡ true
+and-left a b e = and-eq-true-iff a b .0 e .0
+
+pub and-right : (a b : Bool) → a && b ≡ true → b ≡ true
+and-right a b e = and-eq-true-iff a b .0 e .1
+
+-- a chain of tests fails at the first that fails, and goes on past one that holds
+pub and-fails : (a b : Bool) → a ≡ false → false ≡ a && b
+and-fails a b e = rw e
+
+pub and-holds : (a b r : Bool) → a ≡ true → r ≡ b → r ≡ a && b
+and-holds a b r e h = rw e h
+
+-- a number from lo to hi
+module _ (x lo hi : ℕ) where
+  pub within-true : lo ≤ x → x ≤ hi → within x lo hi ≡ true
+  unfolding within
+  within-true l h = both (le-leb lo x l) (le-leb x hi h)
+
+  pub within-below : x < lo → within x lo hi ≡ false
+  unfolding within
+  within-below h = rw (lt-leb lo x h)
+
+  pub within-above : hi < x → within x lo hi ≡ false
+  unfolding within
+  within-above h = rw (lt-leb x hi h) (and-false (leb lo x))
+
+  pub within-bounds : within x lo hi ≡ true → (lo ≤ x) × (x ≤ hi)
+  unfolding within
+  within-bounds e = (leb-true lo x (and-left (leb lo x) (leb x hi) e), leb-true x hi (and-right (leb lo x) (leb x hi) e))
+
+-- the lowest number that passes
+module _ (p : ℕ → Bool) where
+  pub first-none : first 0 p ≡ none
+  unfolding first
+  first-none = refl
+
+  pub first-more : (i : ℕ) → first i p ≡ none → p i ≡ false → first (i + 1) p ≡ none
+  unfolding first
+  first-more i h e = rw (add-one i) (rw (h, e))
+
+  first-hit : (i : ℕ) → first i p ≡ none → p i ≡ true → first (suc i) p ≡ some i
+  unfolding first
+  first-hit i h e = rw (h, e)
+
+  first-on : (i n : ℕ) → first n p ≡ some i → first (suc n) p ≡ some i
+  unfolding first
+  first-on i n h = rw h
+
+  pub first-found : (n i : ℕ) → i < n → first i p ≡ none → p i ≡ true → first n p ≡ some i
+  first-found n i h e t = le-ind (λ (m : ℕ). first m p ≡ some i) (first-hit i e t) (λ m _ r. first-on i m r) n h
+
+  found : (n k : ℕ) → first n p ≡ some k → (k < n) × (p k ≡ true)
+  unfolding first
+  found zero k e = absurd (let z : _≡_ {A = ℕ} 0 1 = cc in omega arith)
+  found (suc n) k e = go (first n p) refl (p n) refl (found n k)
+    where
+      go : (r : Option ℕ) → first n p ≡ r → (b : Bool) → p n ≡ b → (first n p ≡ some k → (k < n) × (p k ≡ true)) → (k < suc n) × (p k ≡ true)
+      go (some j) h b g ih = let w = ih (h ∙ (rw h at e)) in (omega arith, w .1)
+      go none h true g ih = let m : n ≡ k = let w : some n ≡ some k = rw (h, g) at e in cc in (omega arith, rw (← m) g)
+      go none h false g ih = absurd (let z : _≡_ {A = ℕ} 0 1 = let w : none ≡ some k = rw (h, g) at e in cc in omega arith)
+
+  -- what was found lies below the bound and passes the test
+  pub first-below : (n k : ℕ) → first n p ≡ some k → k < n
+  first-below n k e = found n k e .0
+
+  pub first-holds : (n k : ℕ) → first n p ≡ some k → p k ≡ true
+  first-holds n k e = found n k e .1
+
+  -- where nothing is found, each number below the bound fails
+  pub first-missed : (n i : ℕ) → i < n → first n p ≡ none → p i ≡ false
+  first-missed n i h e = ne-true (p i) (λ t. go t (first i p) refl)
+    where
+      never : (j : ℕ) → first n p ≡ some j → ⊥
+      never j g = let z : _≡_ {A = ℕ} 0 1 = cc in omega arith
+
+      go : p i ≡ true → (r : Option ℕ) → first i p ≡ r → ⊥
+      go t none q = never i (first-found n i h q t)
+      go t (some j) q = never j (le-ind (λ (m : ℕ). first m p ≡ some j) q (λ m _ r. first-on j m r) n (omega arith))
+
+-- p holds at each number below a bound
+module _ (p : ℕ → Bool) where
+  pub all-none : allBelow 0 p ≡ true
+  unfolding allBelow
+  all-none = refl
+
+  pub all-more : (i : ℕ) → allBelow i p ≡ true → p i ≡ true → allBelow (i + 1) p ≡ true
+  unfolding allBelow
+  all-more i h e = rw (add-one i) (rw (h, e))
+
+  all-miss : (i : ℕ) → p i ≡ false → allBelow (suc i) p ≡ false
+  unfolding allBelow
+  all-miss i e = rw e (and-false (allBelow i p))
+
+  all-on : (n : ℕ) → allBelow n p ≡ false → allBelow (suc n) p ≡ false
+  unfolding allBelow
+  all-on n h = rw h
+
+  -- one that fails is enough
+  pub all-fails : (n i : ℕ) → i < n → p i ≡ false → allBelow n p ≡ false
+  all-fails n i h e = le-ind (λ (m : ℕ). allBelow m p ≡ false) (all-miss i e) (λ m _ r. all-on m r) n h
+
+  -- where all hold, each does
+  pub all-at : (n i : ℕ) → i < n → allBelow n p ≡ true → p i ≡ true
+  all-at n i h e = ne-false (p i) (λ f. true≢false (sym e ∙ all-fails n i h f))
+
+-- two tests that agree below the bound
+pub all-ext : (p q : ℕ → Bool) (n : ℕ) → ((i : ℕ) → i < n → p i ≡ q i) → allBelow n p ≡ allBelow n q
+unfolding allBelow
+all-ext p q zero h = refl
+all-ext p q (suc n) h = rw (all-ext p q n (λ i l. h i (omega arith)), h n (omega arith))

@@ -1,0 +1,5 @@
+pub mod Tests
+pub mod Lists
+pub mod Ascending
+pub mod Parts
+pub mod Stores

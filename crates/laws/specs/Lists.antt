@@ -1,0 +1,54 @@
+-- Lists picked by a test, tests of any or all of their elements, and counts.
+use Prim.Native.Nat.{ℕ, _+_}
+use mathlib.Core.Bool.{Bool, true, false, cond, _&&_}
+use mathlib.Core.Option.{Option, none, some}
+use mathlib.Core.List.{List, [], _∷_}
+use lib.Dec.{eqb}
+
+module _ {A : Type 0} where
+  -- the elements that pass a test, in their order
+  abbrev pub keep : (A → Bool) → List A → List A
+  keep p [] = []
+  keep p (x ∷ xs) = cond (p x) (x ∷ keep p xs) (keep p xs)
+
+  -- one element or more passes the test
+  abbrev pub anyOf : (A → Bool) → List A → Bool
+  anyOf p [] = false
+  anyOf p (x ∷ xs) = cond (p x) true (anyOf p xs)
+
+  -- each element passes the test
+  abbrev pub allOf : (A → Bool) → List A → Bool
+  allOf p [] = true
+  allOf p (x ∷ xs) = p x && allOf p xs
+
+  -- how many elements pass a test
+  abbrev pub count : (A → Bool) → List A → ℕ
+  count p [] = 0
+  count p (x ∷ xs) = cond (p x) 1 0 + count p xs
+
+  -- there is no element
+  abbrev pub isEmpty : List A → Bool
+  isEmpty [] = true
+  isEmpty (x ∷ xs) = false
+
+  -- there is no value
+  abbrev pub isNone : Option A → Bool
+  isNone none = true
+  isNone (some x) = false
+
+  -- the value as a list of one, and no value as the empty list
+  abbrev pub toList : Option A → List A
+  toList none = []
+  toList (some x) = x ∷ []
+
+-- two lists of numbers are equal: as long, and with the same number at each place
+unfoldable pub same : List ℕ → List ℕ → Bool
+same [] [] = true
+same [] (y ∷ ys) = false
+same (x ∷ xs) [] = false
+same (x ∷ xs) (y ∷ ys) = eqb x y && same xs ys
+
+-- the sum of the numbers
+abbrev pub total : List ℕ → ℕ
+total [] = 0
+total (v ∷ vs) = v + total vs

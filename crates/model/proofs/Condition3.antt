@@ -1,0 +1,437 @@
+-- Condition 3 holds of every list of steps on devices.
+use Prim.Native.Nat.{ℕ, suc, _+_, _<_, _≤_}
+use native.Mathlib.Omega.{arith}
+use mathlib.Core.Path.{_≡_, refl, sym, ap, ap₂, _∙_, subst}
+use mathlib.Core.Bool.{Bool, true, false, cond, not, _&&_, _||_}
+use mathlib.Core.Option.{Option, none, some}
+use mathlib.Core.List.{List, [], _∷_, _++_, map, tail-eq-of-cons-eq}
+use lib.ListN.{length}
+use lib.Dec.{eqb, ltb}
+use borrow.Author.Tests.{eqb-true, le-ltb, ne-eqb}
+use Rattle.laws.specs.Lists.{keep, anyOf, allOf, count, isNone}
+use Rattle.laws.proofs.Tests.{never, both, and-left, and-right}
+use Rattle.laws.proofs.Lists.{decide, eqb-refl, keep-comm, keep-append, keep-excluded, all-append, all-keep, count-append, count-split, count-map, count-kept}
+use Rattle.laws.proofs.Ascending.{ascending-count}
+use Rattle.field.specs.Field.{field}
+use Rattle.model.specs.Device.{QueueType, input, output, Stream, Device, fresh, Buffer, queuedIn, byResource, recordOf}
+use Rattle.model.specs.Frames.{queueNumber}
+use Rattle.model.specs.Answers.{Answer, bytesOf, Written, answersIn}
+use Rattle.model.specs.Replies.{Reply}
+use Rattle.model.specs.Steps.{Act, command, finish, drained, Step, streamOf, serve, Outcome, refused, around, perform, step, Entry, entryOf, log, final, answersOf, isError, accepted}
+use Rattle.model.specs.WellFormed.{wellFormed, goodAct, goodSteps}
+use Rattle.model.specs.Ledger.{Fed, fed, Awaited, toBuffer, toDrain, Pending, Ledger, streamIn, ticketIn, awaitedBy, pending, adds, isBufferOf, isDrain, resourceIn, pays, due, byNumber, awaits, inOrder, ledgerAfter, paid, ownTickets, expectedTickets, fedOf, ledgerFrom, ledgerOf, tickets, AsExpected, reached, ofStep, answersTo, Owed, owed, owedTo, owedBuffers, owedDrain, owedIn}
+use Rattle.model.specs.Promises.{written}
+use Rattle.model.specs.Condition3.{older, OnDevices}
+use Rattle.model.proofs.ReadBack.{error-is, read-back}
+use Rattle.model.proofs.WellFormed.{GoodSelf, well-record, well-fresh, stays-well-formed}
+use Rattle.model.proofs.LedgerView.{View, timestampIn, viewOf, viewAt, to, buffersIn, bufferIn, ticketsIn, viewAfter, ticketsPaid, view-own, view-other, tickets-paid}
+use Rattle.model.proofs.Fits.{Sane, holding, fails, known, knownIf, answerTickets, FitsAct, serve-fits}
+use Rattle.model.proofs.Isolation.{step-runs, step-refused, own-record, other-record, roomRefusal, isolated}
+
+-- What an entry shows of its outcome
+
+tickets-written : (l : List Answer) → tickets (map written l) ≡ answerTickets l
+tickets-written [] = refl
+tickets-written (a ∷ l) = ap (λ r. a .ticket ∷ r) (tickets-written l)
+
+errors-written : (l : List Answer) → anyOf isError (map written l) ≡ anyOf fails l
+errors-written [] = refl
+errors-written (a ∷ l) = simp (error-is a, errors-written l)
+
+module _ (s : Step) (o : Outcome) (read : answersIn (bytesOf (o .answers)) ≡ map written (o .answers)) where
+  tickets-are : tickets (answersOf (entryOf s o)) ≡ answerTickets (o .answers)
+  tickets-are = ap tickets read ∙ tickets-written (o .answers)
+
+  pub accepted-is : accepted (entryOf s o) ≡ (eqb (o .refusal) 0 && not (anyOf fails (o .answers)))
+  unfolding accepted
+  accepted-is = ap (λ (x : Bool). eqb (o .refusal) 0 && not x) (ap (anyOf isError) read ∙ errors-written (o .answers))
+
+-- The device and the ledger agree
+
+record Agree (d : Device) (l : Ledger) : Type 0 where
+  well : wellFormed d ≡ true
+  owes : (n : ℕ) → viewAt n l ≡ holding (recordOf n d)
+  knows : allOf (awaits known) l ≡ true
+
+pub sane-record : (n : ℕ) (d : Device) → wellFormed d ≡ true → Sane (recordOf n d)
+sane-record n d h = of (recordOf n d) (well-record n d h)
+  where
+    of : (r : Option Stream) → GoodSelf r → Sane r
+    of none g = tt
+    of (some b) g = (g .inputs .slots .apart, g .outputs .slots .apart)
+
+-- a step answers as the ledger expects, and the two agree after it
+record Kept (k : ℕ) (d : Device) (l : Ledger) (s : Step) : Type 0 where
+  answers : tickets (answersOf (entryOf s (step d s))) ≡ expectedTickets (fedOf k (entryOf s (step d s))) l
+  agree : Agree (step d s .device) (ledgerAfter (fedOf k (entryOf s (step d s))) l)
+
+own-nothing : (a : Act) → ownTickets a false false ≡ []
+unfolding ownTickets
+own-nothing (command t f) = refl
+own-nothing (finish n qt r flags ts) = refl
+own-nothing (drained n) = refl
+
+knows-pending : (k t n : ℕ) (w : Option Awaited) → knownIf w ≡ true → allOf (awaits known) (pending k t n w) ≡ true
+knows-pending k t n none h = refl
+knows-pending k t n (some w) h = both h refl
+
+module _ (k : ℕ) (d : Device) (l : Ledger) (s : Step) (g : Agree d l) (m : goodAct (s .act) ≡ true) where
+  abbrev a : Act
+  a = s .act
+
+  read : answersIn (bytesOf (step d s .answers)) ≡ map written (step d s .answers)
+  read = read-back d s (g .well) m
+
+  -- a step that is refused by a number
+  kept-refused : (j : ℕ) → eqb j 0 ≡ false → step d s ≡ refused j d → Kept k d l s
+  kept-refused j z e =
+      let o = entryOf s (step d s) in
+      let no : accepted o ≡ false = accepted-is s (step d s) read ∙ ap (λ (x : Outcome). eqb (x .refusal) 0 && not (anyOf fails (x .answers))) e ∙ simp z in
+      let is : fedOf k o ≡ fed k a false false =
+      λ i. record { number = k; act = a; isZero = (ap (λ (x : Outcome). eqb (x .refusal) 0) e ∙ z) i; accepted = no i } in
+      record {
+        answers = tickets-are s (step d s) read ∙ ap (λ (x : Outcome). answerTickets (x .answers)) e ∙ sym (own-nothing a) ∙ ap (λ (x : Fed). expectedTickets x l) (sym is);
+        agree = subst (λ (x : Outcome). Agree (x .device) (ledgerAfter (fedOf k o) l)) (sym e) (subst (λ (x : Fed). Agree d (ledgerAfter x l)) (sym is) g);
+      }
+
+  -- a step of a stream
+  module _ (e : step d s ≡ perform d a (some (streamIn a))) where
+    abbrev n : ℕ
+    n = streamIn a
+
+    abbrev v : Reply
+    v = serve (around d) n (recordOf n d) a
+
+    fit : FitsAct n a (recordOf n d) v
+    fit = serve-fits (around d) n (recordOf n d) a (sane-record n d (g .well))
+
+    abbrev z : Bool
+    z = eqb (v .refusal) 0
+
+    taken : accepted (entryOf s (step d s)) ≡ fit .acc
+    taken = accepted-is s (step d s) read ∙ ap (λ (x : Outcome). eqb (x .refusal) 0 && not (anyOf fails (x .answers))) e ∙ fit .is
+
+    fed-is : fedOf k (entryOf s (step d s)) ≡ fed k a z (fit .acc)
+    fed-is = λ i. record { number = k; act = a; isZero = eqb (e i .refusal) 0; accepted = taken i }
+
+    own-owes : viewAt n (ledgerAfter (fed k a z (fit .acc)) l) ≡ holding (recordOf n (perform d a (some n) .device))
+    own-owes =
+        view-own k a z (fit .acc) l
+        ∙ ap (viewAfter (pays a) (awaitedBy a) (ticketIn a) (fit .acc)) (g .owes n)
+        ∙ sym (fit .held)
+        ∙ ap holding (sym (own-record n d a))
+
+    still-knows : (acc : Bool) → (acc ≡ true → knownIf (awaitedBy a) ≡ true) → allOf (awaits known) (ledgerAfter (fed k a z acc) l) ≡ true
+    still-knows false h = g .knows
+    still-knows true h =
+        all-append (awaits known) (adds k a) (keep (λ p. not (due a p)) l)
+        ∙ both (knows-pending k (ticketIn a) n (awaitedBy a) (h refl)) (all-keep (awaits known) (λ p. not (due a p)) l (g .knows))
+
+    kept-own : Kept k d l s
+    kept-own =
+        record {
+          answers =
+              tickets-are s (step d s) read
+              ∙ ap (λ (x : Outcome). answerTickets (x .answers)) e
+              ∙ fit .told
+              ∙ ap (λ (x : View). ticketsPaid (pays a) (fit .acc) x ++ ownTickets a z (fit .acc)) (sym (g .owes n))
+              ∙ ap (λ (x : List ℕ). x ++ ownTickets a z (fit .acc)) (sym (tickets-paid k a z (fit .acc) l))
+              ∙ ap (λ (x : Fed). expectedTickets x l) (sym fed-is);
+          agree = record {
+            well = stays-well-formed d s (g .well) m;
+            owes = λ j.
+                ap (λ (x : Fed). viewAt j (ledgerAfter x l)) fed-is
+                ∙ decide (eqb n j)
+                (λ q. subst (λ (x : ℕ). viewAt x (ledgerAfter (fed k a z (fit .acc)) l) ≡ holding (recordOf x (perform d a (some n) .device))) (eqb-true n j q) own-owes)
+                (λ q. view-other k j a z (fit .acc) l q ∙ g .owes j ∙ ap holding (sym (other-record j n d a q)))
+                ∙ ap (λ (x : Outcome). holding (recordOf j (x .device))) (sym e);
+            knows = ap (λ (x : Fed). allOf (awaits known) (ledgerAfter x l)) fed-is ∙ still-knows (fit .acc) (fit .adds);
+          };
+        }
+
+pub stream-is : (a : Act) (n : ℕ) → streamOf a ≡ some n → n ≡ streamIn a
+unfolding streamOf
+stream-is (command t f) n e = decide (ltb (length f) 8) (λ h. let z : none ≡ some n = simp h at e in cc) (λ h. let z : some (field 4 f 4) ≡ some n = simp h at e in cc)
+stream-is (finish m qt r flags ts) n e = cc
+stream-is (drained m) n e = cc
+
+kept : (k : ℕ) (d : Device) (l : Ledger) (s : Step) → Agree d l → goodAct (s .act) ≡ true → Kept k d l s
+kept k d l s g m =
+    decide (eqb (roomRefusal s) 0)
+    (λ e. of (streamOf (s .act)) refl (step-runs d s e))
+    (λ e. kept-refused k d l s g m (roomRefusal s) e (step-refused d s e))
+  where
+    of : (o : Option ℕ) → streamOf (s .act) ≡ o → step d s ≡ perform d (s .act) (streamOf (s .act)) → Kept k d l s
+    of none e h = kept-refused k d l s g m 4 refl (h ∙ ap (perform d (s .act)) e)
+    of (some n) e h = kept-own k d l s g m (h ∙ ap (perform d (s .act)) (e ∙ ap some (stream-is (s .act) n e)))
+
+-- and so over a whole list
+
+abbrev good : Step → List Step → Type 0
+good s ss = (goodAct (s .act) && goodSteps ss) ≡ true
+
+as-expected : (k : ℕ) (d : Device) (l : Ledger) (ss : List Step) → Agree d l → goodSteps ss ≡ true → AsExpected k l (log d ss)
+as-expected k d l [] g m = tt
+as-expected k d l (s ∷ ss) g m =
+    let h = kept k d l s g (and-left (goodAct (s .act)) (goodSteps ss) m) in
+    (h .answers, as-expected (suc k) (step d s .device) (ledgerAfter (fedOf k (entryOf s (step d s))) l) ss (h .agree) (and-right (goodAct (s .act)) (goodSteps ss) m))
+
+agrees : (k : ℕ) (d : Device) (l : Ledger) (ss : List Step) → Agree d l → goodSteps ss ≡ true → Agree (final d ss) (ledgerFrom k l (log d ss))
+agrees k d l [] g m = g
+agrees k d l (s ∷ ss) g m =
+    agrees (suc k) (step d s .device) (ledgerAfter (fedOf k (entryOf s (step d s))) l) ss
+    (kept k d l s g (and-left (goodAct (s .act)) (goodSteps ss) m) .agree) (and-right (goodAct (s .act)) (goodSteps ss) m)
+
+agree-fresh : Agree fresh []
+unfolding fresh viewOf holding
+agree-fresh = record { well = well-fresh; owes = λ n. refl; knows = refl }
+
+-- What stays pending is what the records hold
+
+-- counted apart: inputs, outputs, drains
+count-kinds : (p : Pending → Bool) (l : List Pending) → allOf (awaits known) l ≡ true
+    → count p (keep (awaits (isBufferOf 0x100)) l) + count p (keep (awaits (isBufferOf 0x101)) l) + count p (keep (awaits isDrain) l) ≡ count p l
+count-kinds p [] h = refl
+count-kinds p (x ∷ l) h =
+    of (x .awaited) refl (and-left (known (x .awaited)) (allOf (awaits known) l) h) (count-kinds p l (and-right (known (x .awaited)) (allOf (awaits known) l) h))
+  where
+    Split : List Pending → Type 0
+    Split m = count p (keep (awaits (isBufferOf 0x100)) m) + count p (keep (awaits (isBufferOf 0x101)) m) + count p (keep (awaits isDrain) m) ≡ count p m
+
+    queue : (q : ℕ) → (eqb q 0x100 || eqb q 0x101) ≡ true → (r ts : ℕ) → x .awaited ≡ toBuffer q r ts → Split l → Split (x ∷ l)
+    queue q k r ts e i =
+        decide (eqb q 0x100)
+        (λ w. simp (e, eqb-true q 0x100 w) (omega (arith, i)))
+        (λ w. decide (eqb q 0x101) (λ u. simp (e, eqb-true q 0x101 u) (omega (arith, i))) (λ u. never (sym (simp (w, u) at k))))
+
+    of : (w : Awaited) → x .awaited ≡ w → known (x .awaited) ≡ true → Split l → Split (x ∷ l)
+    of (toBuffer q r ts) e k i = queue q (simp e at k) r ts e i
+    of toDrain e k i = simp e (omega (arith, i))
+
+abbrev owedOf : Pending → Owed
+owedOf x = owed (x .ticket) (x .awaited)
+
+abbrev bufferOwed : ℕ → Buffer → Owed
+bufferOwed qt i = owed (i .ticket) (toBuffer qt (i .resource) (i .timestamp))
+
+is-buffer : (qt : ℕ) (w : Awaited) → isBufferOf qt w ≡ true → w ≡ toBuffer qt (resourceIn w) (timestampIn w)
+is-buffer qt (toBuffer q r ts) h = ap (λ (x : ℕ). toBuffer x r ts) (eqb-true q qt h)
+is-buffer qt toDrain h = never (sym h)
+
+is-drain : (w : Awaited) → isDrain w ≡ true → w ≡ toDrain
+is-drain (toBuffer q r ts) h = never (sym h)
+is-drain toDrain h = refl
+
+module _ (p : Owed → Bool) where
+  -- a pending answer of a queue is owed to a buffer of it, and any other to a drain
+  count-queue : (qt : ℕ) (m : List Pending)
+      → count (λ x. p (owedOf x)) (keep (awaits (isBufferOf qt)) m) ≡ count (λ x. p (bufferOwed qt (bufferIn x))) (keep (awaits (isBufferOf qt)) m)
+  count-queue qt m = count-kept (λ x. p (owedOf x)) (λ x. p (bufferOwed qt (bufferIn x))) (awaits (isBufferOf qt)) (λ x h. ap (λ (w : Awaited). p (owed (x .ticket) w)) (is-buffer qt (x .awaited) h)) m
+
+  count-drains : (m : List Pending) → count (λ x. p (owedOf x)) (keep (awaits isDrain) m) ≡ count (λ x. p (owed (x .ticket) toDrain)) (keep (awaits isDrain) m)
+  count-drains m = count-kept (λ x. p (owedOf x)) (λ x. p (owed (x .ticket) toDrain)) (awaits isDrain) (λ x h. ap (λ (w : Awaited). p (owed (x .ticket) w)) (is-drain (x .awaited) h)) m
+
+  -- how much of a view passes a test
+  abbrev inView : View → ℕ
+  inView v = count p (owedBuffers 0x100 (v .queued input)) + count p (owedBuffers 0x101 (v .queued output)) + count p (map (λ (t : ℕ). owed t toDrain) (v .drains))
+
+  count-buffers : (qt : ℕ) (l : List Buffer) → count p (owedBuffers qt (byResource l)) ≡ count p (owedBuffers qt l)
+  count-buffers qt l =
+      count-map p (bufferOwed qt) (byResource l) ∙ ascending-count (λ (i : Buffer). i .resource) l (λ i. p (bufferOwed qt i)) ∙ sym (count-map p (bufferOwed qt) l)
+
+  by-ledger : (m : List Pending) → allOf (awaits known) m ≡ true → count p (map owedOf m) ≡ inView (viewOf m)
+  unfolding viewOf
+  by-ledger m h =
+      omega (
+        arith,
+        count-map p owedOf m,
+        count-kinds (λ x. p (owedOf x)) m h,
+        queue input,
+        queue output,
+        count-drains m,
+        count-map (λ t. p (owed t toDrain)) (λ (x : Pending). x .ticket) (keep (awaits isDrain) m),
+        count-map p (λ (t : ℕ). owed t toDrain) (ticketsIn (keep (awaits isDrain) m)),
+      )
+    where
+      queue : (q : QueueType) → count (λ x. p (owedOf x)) (keep (awaits (isBufferOf (queueNumber q))) m) ≡ count p (owedBuffers (queueNumber q) (buffersIn q m))
+      queue q =
+          let mine = keep (awaits (isBufferOf (queueNumber q))) m in
+          count-queue (queueNumber q) m
+          ∙ sym (ascending-count (λ (x : Pending). resourceIn (x .awaited)) mine (λ x. p (bufferOwed (queueNumber q) (bufferIn x))))
+          ∙ sym (count-map (λ i. p (bufferOwed (queueNumber q) i)) bufferIn (byNumber mine))
+          ∙ sym (count-map p (bufferOwed (queueNumber q)) (buffersIn q m))
+
+  by-record : (r : Option Stream) → inView (holding r) ≡ count p (owedIn r)
+  unfolding holding
+  by-record none = refl
+  by-record (some b) =
+      omega (
+        arith,
+        count-buffers 0x100 (queuedIn (b .inputs .slots)),
+        count-buffers 0x101 (queuedIn (b .outputs .slots)),
+        count-append p (owedBuffers 0x100 (queuedIn (b .inputs .slots))) (owedBuffers 0x101 (queuedIn (b .outputs .slots)) ++ owedDrain (b .draining)),
+        count-append p (owedBuffers 0x101 (queuedIn (b .outputs .slots))) (owedDrain (b .draining)),
+      )
+
+  agree-owes : (d : Device) (l : Ledger) (n : ℕ) → Agree d l → count p (owedTo n l) ≡ count p (owedIn (recordOf n d))
+  agree-owes d l n g = by-ledger (keep (to n) l) (all-keep (awaits known) (to n) l (g .knows)) ∙ ap inView (g .owes n) ∙ by-record (recordOf n d)
+
+-- Each is answered once or owed once
+
+count-inOrder : (p : Pending → Bool) (l : List Pending) → allOf (awaits known) l ≡ true → count p (inOrder l) ≡ count p l
+unfolding inOrder
+count-inOrder p l h =
+    let ins = keep (awaits (isBufferOf 0x100)) l in
+    let outs = keep (awaits (isBufferOf 0x101)) l in
+    let drains = keep (awaits isDrain) l in
+    omega (
+      arith,
+      count-append p (byNumber ins) (byNumber outs ++ drains),
+      count-append p (byNumber outs) drains,
+      ascending-count (λ (x : Pending). resourceIn (x .awaited)) ins p,
+      ascending-count (λ (x : Pending). resourceIn (x .awaited)) outs p,
+      count-kinds p l h,
+    )
+
+-- what a step adds
+abbrev new : ℕ → Act → Bool → List Pending
+new k a acc = cond acc (adds k a) []
+
+abbrev added : ℕ → List Entry → List Pending
+added k [] = []
+added k (e ∷ es) = new k (e .step .act) (accepted e) ++ added (suc k) es
+
+count-after : (p : Pending → Bool) (k : ℕ) (a : Act) (z acc : Bool) (l : Ledger) → allOf (awaits known) l ≡ true
+    → count p (paid (fed k a z acc) l) + count p (ledgerAfter (fed k a z acc) l) ≡ count p (new k a acc) + count p l
+count-after p k a z false l h = refl
+count-after p k a z true l h =
+    omega (
+      arith,
+      count-append p (adds k a) (keep (λ x. not (due a x)) l),
+      count-split p (due a) l,
+      count-inOrder p (keep (due a) l) (all-keep (awaits known) (due a) l h),
+    )
+
+-- every pending answer that is paid is reached by an answer
+reached-all : (ws : List Written) (ps : List Pending) (x : List ℕ) → tickets ws ≡ map (λ (p : Pending). p .ticket) ps ++ x → reached ws ps ≡ ps
+reached-all [] [] x h = refl
+reached-all [] (p ∷ ps) x h = cc
+reached-all (w ∷ ws) [] x h = refl
+reached-all (w ∷ ws) (p ∷ ps) x h = ap (λ r. p ∷ r) (reached-all ws ps x (tail-eq-of-cons-eq h))
+
+-- the ledger of every entry knows its queues
+abbrev Knows : ℕ → Ledger → List Entry → Type 0
+Knows k l [] = Unit {0}
+Knows k l (e ∷ es) = (allOf (awaits known) l ≡ true) × Knows (suc k) (ledgerAfter (fedOf k e) l) es
+
+all-know : (k : ℕ) (d : Device) (l : Ledger) (ss : List Step) → Agree d l → goodSteps ss ≡ true → Knows k l (log d ss)
+all-know k d l [] g m = tt
+all-know k d l (s ∷ ss) g m = (
+  g .knows,
+  all-know (suc k) (step d s .device) (ledgerAfter (fedOf k (entryOf s (step d s))) l) ss
+      (kept k d l s g (and-left (goodAct (s .act)) (goodSteps ss) m) .agree) (and-right (goodAct (s .act)) (goodSteps ss) m),
+)
+
+balance : (j k : ℕ) (l : Ledger) (es : List Entry) → AsExpected k l es → Knows k l es
+    → answersTo j k l es + count (ofStep j) (ledgerFrom k l es) ≡ count (ofStep j) (added k es) + count (ofStep j) l
+balance j k l [] h w = refl
+balance j k l (e ∷ es) h w =
+    let s = fedOf k e in
+    omega (
+      arith,
+      balance j (suc k) (ledgerAfter s l) es (h .1) (w .1),
+      ap (count (ofStep j)) (reached-all (answersOf e) (paid s l) (ownTickets (s .act) (s .isZero) (s .accepted)) (h .0)),
+      count-after (ofStep j) k (s .act) (s .isZero) (s .accepted) l (w .0),
+      count-append (ofStep j) (new k (s .act) (s .accepted)) (added (suc k) es),
+    )
+
+-- step numbers are each given once
+
+pending-other : (j k t n : ℕ) (w : Option Awaited) → (k ≡ j → ⊥) → count (ofStep j) (pending k t n w) ≡ 0
+pending-other j k t n none h = refl
+pending-other j k t n (some w) h = simp (ne-eqb k j h)
+
+new-other : (j k : ℕ) (a : Act) (acc : Bool) → (k ≡ j → ⊥) → count (ofStep j) (new k a acc) ≡ 0
+new-other j k a true h = pending-other j k (ticketIn a) (streamIn a) (awaitedBy a) h
+new-other j k a false h = refl
+
+added-later : (j k : ℕ) (es : List Entry) → j < k → count (ofStep j) (added k es) ≡ 0
+added-later j k [] h = refl
+added-later j k (e ∷ es) h =
+    omega (
+      arith,
+      count-append (ofStep j) (new k (e .step .act) (accepted e)) (added (suc k) es),
+      new-other j k (e .step .act) (accepted e) (λ q. omega arith),
+      added-later j (suc k) es (omega arith),
+    )
+
+pending-own : (k t n : ℕ) (w : Option Awaited) → isNone w ≡ false → count (ofStep k) (pending k t n w) ≡ 1
+pending-own k t n none h = never h
+pending-own k t n (some w) h = simp (eqb-refl k)
+
+added-once : (j k : ℕ) (before later : List Entry) (e : Entry) → j ≡ k + length before → accepted e ≡ true → isNone (awaitedBy (e .step .act)) ≡ false
+    → count (ofStep j) (added k (before ++ e ∷ later)) ≡ 1
+added-once j k [] later e i acc h =
+    let a = e .step .act in
+    let here : k ≡ j = omega arith in
+    let one : count (ofStep j) (new k a (accepted e)) ≡ 1 = simp acc (subst (λ (x : ℕ). count (ofStep x) (adds k a) ≡ 1) here (pending-own k (ticketIn a) (streamIn a) (awaitedBy a) h)) in
+    omega (arith, count-append (ofStep j) (new k a (accepted e)) (added (suc k) later), one, added-later j (suc k) later (omega arith))
+added-once j k (y ∷ before) later e i acc h =
+    omega (
+      arith,
+      count-append (ofStep j) (new k (y .step .act) (accepted y)) (added (suc k) (before ++ e ∷ later)),
+      new-other j k (y .step .act) (accepted y) (λ q. omega arith),
+      added-once j (suc k) before later e (omega arith) acc h,
+    )
+
+-- After a destruction nothing older of its stream is owed
+
+old-pending : (n j k t m : ℕ) (w : Option Awaited) → j ≤ k → keep (older n j) (pending k t m w) ≡ []
+old-pending n j k t m none h = refl
+old-pending n j k t m (some w) h = decide (eqb m n) (λ e. simp (e, le-ltb k j h)) (λ e. simp e)
+
+old-after : (n j k : ℕ) (a : Act) (z acc : Bool) (l : Ledger) → j ≤ k → keep (older n j) l ≡ [] → keep (older n j) (ledgerAfter (fed k a z acc) l) ≡ []
+old-after n j k a z false l h e = e
+old-after n j k a z true l h e =
+    keep-append (older n j) (adds k a) (keep (λ x. not (due a x)) l)
+    ∙ ap₂ (λ (x y : List Pending). x ++ y) (old-pending n j k (ticketIn a) (streamIn a) (awaitedBy a) h)
+    (keep-comm (older n j) (λ x. not (due a x)) l ∙ ap (keep (λ x. not (due a x))) e)
+
+old-from : (n j k : ℕ) (l : Ledger) (es : List Entry) → j ≤ k → keep (older n j) l ≡ [] → keep (older n j) (ledgerFrom k l es) ≡ []
+old-from n j k l [] h e = e
+old-from n j k l (x ∷ es) h e =
+    old-from n j (suc k) (ledgerAfter (fedOf k x) l) es (omega arith) (old-after n j k (x .step .act) (eqb (x .refusal) 0) (accepted x) l h e)
+
+-- the ledger just after a destruction
+destroy-after : (j k t : ℕ) (f : List ℕ) (z : Bool) (l : Ledger) → field 4 f 0 ≡ 0x0102 → keep (older (field 4 f 4) j) (ledgerAfter (fed k (command t f) z true) l) ≡ []
+unfolding awaitedBy pays
+destroy-after j k t f z l e =
+    simp e
+    (keep-excluded (λ x. not (eqb (x .stream) (field 4 f 4) && true)) (older (field 4 f 4) j) (λ x h. decide (eqb (x .stream) (field 4 f 4)) (λ q. never (sym (simp q at h))) (λ q. simp q)) l)
+
+destroyed-from : (j k : ℕ) (l : Ledger) (before later : List Entry) (e : Entry) (t : ℕ) (f : List ℕ) → j ≡ k + length before → e .step .act ≡ command t f
+    → field 4 f 0 ≡ 0x0102 → accepted e ≡ true → keep (older (field 4 f 4) j) (ledgerFrom k l (before ++ e ∷ later)) ≡ []
+destroyed-from j k l [] later e t f i a x acc =
+    old-from (field 4 f 4) j (suc k) (ledgerAfter (fedOf k e) l) later (omega arith) (simp (a, acc) (destroy-after j k t f (eqb (e .refusal) 0) l x))
+destroyed-from j k l (y ∷ before) later e t f i a x acc = destroyed-from j (suc k) (ledgerAfter (fedOf k y) l) before later e t f (omega arith) a x acc
+
+-- Condition 3
+
+pub condition3 : OnDevices
+condition3 ss m =
+    record {
+      isolated = λ n. isolated n ss;
+      answered = as-expected 0 fresh [] ss agree-fresh m;
+      owes = λ n p. agree-owes p (final fresh ss) (ledgerOf (log fresh ss)) n (agrees 0 fresh [] ss agree-fresh m);
+      once = λ before later e split acc h.
+          let j = length before in
+          omega (
+            arith,
+            balance j 0 [] (log fresh ss) (as-expected 0 fresh [] ss agree-fresh m) (all-know 0 fresh [] ss agree-fresh m),
+            ap (λ (es : List Entry). count (ofStep j) (added 0 es)) split,
+            added-once j 0 before later e (omega arith) acc h,
+          );
+      destroyed = λ before later e t f split a x acc.
+          subst (λ (es : List Entry). keep (older (field 4 f 4) (length before)) (ledgerOf es) ≡ []) (sym split)
+          (destroyed-from (length before) 0 [] before later e t f (omega arith) a x acc);
+    }

@@ -1,0 +1,505 @@
+-- Each step of a stream keeps to the ledger: what its record owes after the step, the tickets of its answers, and that a step which is
+-- not accepted leaves the record alone.
+use Prim.Native.Nat.{ℕ}
+use mathlib.Core.Path.{_≡_, refl, sym, ap, _∙_, subst}
+use mathlib.Core.Bool.{Bool, true, false, cond, not, _&&_, _||_}
+use mathlib.Core.Option.{Option, none, some}
+use mathlib.Core.List.{List, [], _∷_, _++_, map, append-nil, append-assoc}
+use lib.ListN.{length}
+use lib.Dec.{eqb, ltb}
+use borrow.Author.Tests.{not-false}
+use Rattle.laws.specs.Lists.{keep, anyOf, isEmpty, toList}
+use Rattle.laws.specs.Ascending.{insert}
+use Rattle.laws.proofs.Tests.{never}
+use Rattle.laws.proofs.Lists.{cond-elim, eqb-refl, eqb-sym, keep-ascending, keep-const, none-is, any-append, map-append}
+use Rattle.field.specs.Field.{field}
+use Rattle.model.specs.Device.{QueueType, input, output, queued, dequeued, Queue, Stream, newStream, queueOf, withQueue, withDrain, withSlots, Buffer, queuedIn, byResource, buffers, bufferOf, present, addResource, setState, freeAll}
+use Rattle.model.specs.Frames.{LiveCommand, destroy, drain, createResource, queueResource, destroyAll, clear, getParameters, setParameters, queryControl, getControl, setControl, create, live, CommandLine, commands, commandOf, wrongLength, queueNumber, queueNamed, codedFormat, resourceId, timestampSent}
+use Rattle.model.specs.Answers.{ErrorCode, invalidOperation, invalidStream, invalidParameter, unsupportedControl, success, bufferDone, drainDone, parameters, failure, Answer}
+use Rattle.model.specs.Replies.{Reply, refuse, reply, Request, own, fail}
+use Rattle.model.specs.Commands.{Surroundings, onCreate, stoppedAnswers, drainAnswers, onDestroy, onDrain, onCreateResource, onQueue, onDestroyAll, drainEnded, drainLeft, cleared, onClear, onGet, onSet, onLive, onStream, onLine, onCommand}
+use Rattle.model.specs.Reports.{timestampOf, badEos, finishBuffer, finishQueue, finishStream, onFinish, endDrain, onDrained}
+use Rattle.model.specs.Steps.{Act, command, finish, drained, serve}
+use Rattle.model.specs.Ledger.{Awaited, toBuffer, toDrain, awaitedBy, isBufferOf, isDrain, resourceIn, pays, ticketIn, ownTickets}
+use Rattle.model.proofs.Slots.{byRes, Distinct, queued-stop, queued-free, queued-add, queued-finish, queued-only, queued-more, isRes}
+use Rattle.model.proofs.Walk.{walk, walk-queue}
+use Rattle.model.proofs.ReadBack.{isFailure}
+use Rattle.model.proofs.Lines.{Each, each-line, by-type, named-number}
+use Rattle.model.proofs.LedgerView.{View, pick, bufferTickets, ticketsOf, viewAfter, ticketsPaid}
+
+-- resource numbers are distinct
+abbrev pub Sane : Option Stream → Type 0
+Sane none = Unit {0}
+Sane (some b) = Distinct (b .inputs .slots) × Distinct (b .outputs .slots)
+
+-- what a record owes
+unfoldable pub holding : Option Stream → View
+holding none = record { queued = λ q. []; drains = [] }
+holding (some b) = record { queued = λ q. buffers q b; drains = toList (b .draining) }
+
+-- refused by no number and answered by no error
+abbrev pub fails : Answer → Bool
+fails a = isFailure (a .response)
+
+abbrev pub acceptedReply : Reply → Bool
+acceptedReply v = eqb (v .refusal) 0 && not (anyOf fails (v .answers))
+
+-- not accepted: refused by the host's numbers, or answered by one error
+pub data Rejected (n t : ℕ) (self : Option Stream) : Reply → Type 0 where
+  byHost : (k : ℕ) → eqb k 0 ≡ false → Rejected n t self (refuse k self)
+  byError : (e : ErrorCode) → Rejected n t self (reply (record { ticket = t; stream = n; response = failure e } ∷ []) self)
+
+-- of a queue that the ledger knows
+abbrev pub known : Awaited → Bool
+known (toBuffer q r ts) = eqb q 0x100 || eqb q 0x101
+known toDrain = true
+
+abbrev pub knownIf : Option Awaited → Bool
+knownIf none = true
+knownIf (some w) = known w
+
+abbrev pub answerTickets : List Answer → List ℕ
+answerTickets = map (λ (a : Answer). a .ticket)
+
+-- a step of stream n with ticket t: p is what it pays if it is accepted, w what it adds, me the tickets of its own answer
+pub record Fits (p : Awaited → Bool) (w : Option Awaited) (n t : ℕ) (me : Bool → Bool → List ℕ) (self : Option Stream) (v : Reply) : Type 0 where
+  pub acc : Bool
+  pub is : acceptedReply v ≡ acc
+  pub held : holding (v .next) ≡ viewAfter p w t acc (holding self)
+  pub told : answerTickets (v .answers) ≡ ticketsPaid p acc (holding self) ++ me (eqb (v .refusal) 0) acc
+  pub adds : acc ≡ true → knownIf w ≡ true
+  pub rejected : acc ≡ false → Rejected n t self v
+
+abbrev me : ℕ → Bool → Bool → Bool → List ℕ
+me t later isZero acc = cond (isZero && not (acc && later)) (t ∷ []) []
+
+abbrev nobody : Bool → Bool → List ℕ
+nobody isZero acc = []
+
+-- refused by the host's numbers, and with an error answer
+
+refuse-fits : (p : Awaited → Bool) (w : Option Awaited) (n t k : ℕ) (self : Option Stream) → eqb k 0 ≡ false → Fits p w n t nobody self (refuse k self)
+refuse-fits p w n t k self z =
+    record { acc = false; is = simp z; held = refl; told = refl; adds = λ e. never (sym e); rejected = λ _. byHost k z }
+
+fail-fits : (p : Awaited → Bool) (w : Option Awaited) (c : Request) (later : Bool) (e : ErrorCode)
+    → Fits p w (c .stream) (c .ticket) (me (c .ticket) later) (c .self) (fail c e)
+fail-fits p w c later e =
+    record { acc = false; is = refl; held = refl; told = refl; adds = λ z. never (sym z); rejected = λ _. byError e }
+
+-- what the tests of a picked list come to
+pick-all : (v : View) → pick (λ x. true) v ≡ v
+pick-all v = λ i. record { queued = λ q. keep-const true (v .queued q) i; drains = v .drains }
+
+pick-none : (v : View) → ticketsOf (pick (λ x. false) v) ≡ []
+pick-none v = simp (keep-const false (v .queued input), keep-const false (v .queued output))
+
+-- one answer under the command's own ticket, and nothing owed more or less
+quiet-fits : (n t : ℕ) (a : Answer) (self next : Option Stream) → a .ticket ≡ t → fails a ≡ false → holding next ≡ holding self
+    → Fits (λ x. false) none n t (me t false) self (reply (a ∷ []) next)
+quiet-fits n t a self next k e h =
+    record {
+      acc = true;
+      is = simp e;
+      held = h ∙ sym (pick-all (holding self));
+      told = simp (pick-none (holding self)) (ap (λ (x : ℕ). x ∷ []) k);
+      adds = λ _. refl;
+      rejected = λ z. never z;
+    }
+
+-- no answer to a stopped buffer or drain is an error
+
+fine-stopped : (n : ℕ) (q : QueueType) (l : List Buffer) → anyOf fails (stoppedAnswers n q l) ≡ false
+fine-stopped n q [] = refl
+fine-stopped n q (i ∷ l) = fine-stopped n q l
+
+fine-drain : (n : ℕ) (d : Option ℕ) → anyOf fails (drainAnswers n d) ≡ false
+fine-drain n none = refl
+fine-drain n (some t) = refl
+
+tickets-stopped : (n : ℕ) (q : QueueType) (l : List Buffer) → answerTickets (stoppedAnswers n q l) ≡ bufferTickets l
+tickets-stopped n q [] = refl
+tickets-stopped n q (i ∷ l) = ap (λ r. i .ticket ∷ r) (tickets-stopped n q l)
+
+tickets-drain : (n : ℕ) (d : Option ℕ) → answerTickets (drainAnswers n d) ≡ toList d
+tickets-drain n none = refl
+tickets-drain n (some t) = refl
+
+-- what is owed where one queue is changed: that queue's, and the other's as before
+view-with : (q : QueueType) (x : Queue) (b : Stream) (g : QueueType → List Buffer) (d : List ℕ) → byResource (queuedIn (x .slots)) ≡ g q
+    → ((o : QueueType) → eqb (queueNumber q) (queueNumber o) ≡ false → buffers o b ≡ g o) → toList (b .draining) ≡ d
+    → holding (some (withQueue q x b)) ≡ record { queued = g; drains = d }
+unfolding holding
+view-with input x b g d here other e = λ i. record { queued = λ o. at o i; drains = e i }
+  where
+    at : (o : QueueType) → buffers o (withQueue input x b) ≡ g o
+    at input = here
+    at output = other output refl
+view-with output x b g d here other e = λ i. record { queued = λ o. at o i; drains = e i }
+  where
+    at : (o : QueueType) → buffers o (withQueue output x b) ≡ g o
+    at input = other input refl
+    at output = here
+
+same-queued : (q : QueueType) (x : Queue) (b : Stream) → queuedIn (x .slots) ≡ queuedIn (queueOf q b .slots) → holding (some (withQueue q x b)) ≡ holding (some b)
+unfolding holding
+same-queued q x b h = view-with q x b (λ o. buffers o b) (toList (b .draining)) (ap byResource h) (λ o _. refl) refl
+
+sane-of : (q : QueueType) (b : Stream) → Sane (some b) → Distinct (queueOf q b .slots)
+sane-of input b s = s .0
+sane-of output b s = s .1
+
+pub empty-is : {A : Type 0} (l : List A) → isEmpty l ≡ true → l ≡ []
+empty-is [] e = refl
+empty-is (i ∷ l) e = never (sym e)
+
+known-queue : (q : QueueType) (r ts : ℕ) → known (toBuffer (queueNumber q) r ts) ≡ true
+known-queue input r ts = refl
+known-queue output r ts = refl
+
+-- an accepted queueing
+queue-fits : (q : QueueType) (n t r ts : ℕ) (b : Stream) → Sane (some b) → present r (queueOf q b .slots) ≡ true → bufferOf r (queuedIn (queueOf q b .slots)) ≡ none
+    → Fits (λ x. false) (some (toBuffer (queueNumber q) r ts)) n t (me t true) (some b)
+    (reply [] (some (withQueue q (withSlots (setState r (queued t ts) (queueOf q b .slots)) (queueOf q b)) b)))
+unfolding holding
+queue-fits q n t r ts b s p f =
+    record {
+      acc = true;
+      is = refl;
+      held = view-with q (withSlots (setState r (queued t ts) (queueOf q b .slots)) (queueOf q b)) b _ _
+          (simp (eqb-refl (queueNumber q), keep-const true (buffers q b)) (queued-more r t ts (queueOf q b .slots) (sane-of q b s) p f))
+          (λ o h. simp (h, keep-const true (buffers o b))) refl;
+      told = simp (pick-none (holding (some b)));
+      adds = λ _. known-queue q r ts;
+      rejected = λ z. never z;
+    }
+
+buffers-drain : (d : Option ℕ) (b : Stream) (q : QueueType) → buffers q (withDrain d b) ≡ keep (λ i. true) (buffers q b)
+buffers-drain d b input = sym (keep-const true (buffers input b))
+buffers-drain d b output = sym (keep-const true (buffers output b))
+
+-- an accepted drain
+drain-fits : (n t : ℕ) (b : Stream) → b .draining ≡ none → Fits (λ x. false) (some toDrain) n t (me t true) (some b) (reply [] (some (withDrain (some t) b)))
+unfolding holding
+drain-fits n t b d =
+    record {
+      acc = true;
+      is = refl;
+      held = λ i. record { queued = λ q. buffers-drain (some t) b q i; drains = t ∷ toList (sym d i) };
+      told = simp (pick-none (holding (some b)));
+      adds = λ _. refl;
+      rejected = λ z. never z;
+    }
+
+-- an accepted clear
+abbrev clears : ℕ → Awaited → Bool
+clears qt w = isBufferOf qt w || (eqb qt 0x100 && isDrain w)
+
+clear-held : (q : QueueType) (b : Stream)
+    → holding (some (withQueue q (cleared (queueOf q b)) (withDrain (drainLeft q b) b))) ≡ viewAfter (clears (queueNumber q)) none 0 true (holding (some b))
+unfolding holding
+clear-held input b =
+    view-with input (cleared (b .inputs)) (withDrain none b) _ _ (ap byResource (queued-stop (b .inputs .slots)) ∙ sym (keep-const false (buffers input b)))
+    (λ o. elim o [ input ↦ λ h. never h | output ↦ λ h. sym (keep-const true (buffers output b)) ]) refl
+clear-held output b =
+    view-with output (cleared (b .outputs)) (withDrain (b .draining) b) _ _ (ap byResource (queued-stop (b .outputs .slots)) ∙ sym (keep-const false (buffers output b)))
+    (λ o. elim o [ input ↦ λ h. sym (keep-const true (buffers input b)) | output ↦ λ h. never h ]) refl
+
+clear-told : (q : QueueType) (n t : ℕ) (b : Stream)
+    → answerTickets (stoppedAnswers n q (buffers q b) ++ (drainAnswers n (drainEnded q b) ++ record { ticket = t; stream = n; response = success } ∷ []))
+    ≡ ticketsOf (pick (clears (queueNumber q)) (holding (some b))) ++ t ∷ []
+unfolding holding
+clear-told input n t b = simp (map-append, tickets-stopped, tickets-drain, keep-const true (buffers input b), keep-const false (buffers output b), append-assoc)
+clear-told output n t b = simp (map-append, tickets-stopped, keep-const true (buffers output b), keep-const false (buffers input b), append-nil)
+
+clear-fits : (q : QueueType) (n t : ℕ) (b : Stream)
+    → Fits (clears (queueNumber q)) none n t (me t false) (some b)
+    (reply (stoppedAnswers n q (buffers q b) ++ (drainAnswers n (drainEnded q b) ++ record { ticket = t; stream = n; response = success } ∷ []))
+    (some (withQueue q (cleared (queueOf q b)) (withDrain (drainLeft q b) b))))
+clear-fits q n t b =
+    record {
+      acc = true;
+      is = simp (any-append fails, fine-stopped n q (buffers q b), fine-drain n (drainEnded q b));
+      held = clear-held q b;
+      told = clear-told q n t b;
+      adds = λ _. refl;
+      rejected = λ z. never z;
+    }
+
+-- an accepted destruction
+destroy-fits : (c : Request) (b : Stream) → Fits (λ x. true) none (c .stream) (c .ticket) (me (c .ticket) false) (some b) (onDestroy c b)
+unfolding holding onDestroy
+destroy-fits c b =
+    let n = c .stream in
+    record {
+      acc = true;
+      is = simp (any-append fails, fine-stopped n input (buffers input b), fine-stopped n output (buffers output b), fine-drain n (b .draining));
+      held = λ i. record { queued = λ q. sym (keep-const false (buffers q b)) i; drains = [] };
+      told = simp (map-append, tickets-stopped, tickets-drain, keep-const true (buffers input b), keep-const true (buffers output b), append-assoc);
+      adds = λ _. refl;
+      rejected = λ z. never z;
+    }
+
+-- an accepted finish report
+abbrev finishes : ℕ → ℕ → Awaited → Bool
+finishes qt r x = isBufferOf qt x && eqb (resourceIn x) r
+
+one-of : (i : Buffer) → byResource (i ∷ []) ≡ i ∷ []
+unfolding insert
+one-of i = refl
+
+finish-told : (q : QueueType) (r : ℕ) (i : Buffer) (b : Stream) → Sane (some b) → bufferOf r (queuedIn (queueOf q b .slots)) ≡ some i
+    → i .ticket ∷ [] ≡ ticketsOf (pick (finishes (queueNumber q) r) (holding (some b)))
+unfolding holding
+finish-told q r i b s f = go q refl
+  where
+    out : keep (isRes r) (buffers q b) ≡ i ∷ []
+    out = keep-ascending byRes (isRes r) (queuedIn (queueOf q b .slots)) ∙ ap byResource (queued-only r i (queueOf q b .slots) (sane-of q b s) f) ∙ one-of i
+
+    go : (o : QueueType) → q ≡ o → i .ticket ∷ [] ≡ ticketsOf (pick (finishes (queueNumber q) r) (record { queued = λ x. buffers x b; drains = toList (b .draining) }))
+    go input e = simp (e, subst (λ (x : QueueType). keep (isRes r) (buffers x b) ≡ i ∷ []) e out, keep-const false (b .outputs .slots), keep-const false (buffers output b))
+    go output e = simp (e, subst (λ (x : QueueType). keep (isRes r) (buffers x b) ≡ i ∷ []) e out, keep-const false (buffers input b))
+
+finish-fits : (q : QueueType) (n r : ℕ) (a : Answer) (i : Buffer) (b : Stream) → Sane (some b) → bufferOf r (queuedIn (queueOf q b .slots)) ≡ some i
+    → a .ticket ≡ i .ticket → fails a ≡ false
+    → Fits (finishes (queueNumber q) r) none n 0 nobody (some b) (reply (a ∷ []) (some (withQueue q (withSlots (setState r dequeued (queueOf q b .slots)) (queueOf q b)) b)))
+unfolding holding
+finish-fits q n r a i b s f k e =
+    let x = queueOf q b .slots in
+    record {
+      acc = true;
+      is = simp e;
+      held = view-with q (withSlots (setState r dequeued x) (queueOf q b)) b _ _
+          (simp (eqb-refl (queueNumber q)) (ap byResource (queued-finish r x) ∙ sym (keep-ascending byRes (λ y. not (isRes r y)) (queuedIn x))))
+          (λ o h. simp (eqb-sym (queueNumber q) (queueNumber o) h) (sym (keep-const true (buffers o b)))) refl;
+      told = ap (λ (y : ℕ). y ∷ []) k ∙ finish-told q r i b s f ∙ sym (append-nil (ticketsOf (pick (finishes (queueNumber q) r) (holding (some b)))));
+      adds = λ _. refl;
+      rejected = λ z. never z;
+    }
+
+-- an accepted drained report
+drained-fits : (n t : ℕ) (b : Stream) → b .draining ≡ some t
+    → Fits isDrain none n 0 nobody (some b) (reply (record { ticket = t; stream = n; response = drainDone } ∷ []) (some (withDrain none b)))
+unfolding holding
+drained-fits n t b d =
+    record {
+      acc = true;
+      is = refl;
+      held = λ i. record { queued = λ q. buffers-drain none b q i; drains = [] };
+      told = simp (d, keep-const false (buffers input b), keep-const false (buffers output b));
+      adds = λ _. refl;
+      rejected = λ z. never z;
+    }
+
+-- The walk over the commands
+
+abbrev request : ℕ → ℕ → Option Stream → List ℕ → Request
+request n t self f = record { stream = n; ticket = t; frame = f; self = self }
+
+-- what the ledger makes of a command of type ty
+abbrev paysType : ℕ → List ℕ → Awaited → Bool
+paysType ty f w = eqb ty 0x0102 || (eqb ty 0x0107 && clears (field 4 f 8) w)
+
+abbrev awaitedType : ℕ → List ℕ → Option Awaited
+awaitedType ty f = cond (eqb ty 0x0105) (some (toBuffer (field 4 f 8) (field 4 f 12) (field 8 f 16))) (cond (eqb ty 0x0103) (some toDrain) none)
+
+abbrev later : ℕ → Bool
+later ty = eqb ty 0x0105 || eqb ty 0x0103
+
+abbrev FitsType : ℕ → ℕ → ℕ → List ℕ → Option Stream → Reply → Type 0
+FitsType ty n t f self v = Fits (paysType ty f) (awaitedType ty f) n t (me t (later ty)) self v
+
+fail-type : (ty n t : ℕ) (f : List ℕ) (self : Option Stream) (e : ErrorCode) → FitsType ty n t f self (fail (request n t self f) e)
+fail-type ty n t f self e = fail-fits (paysType ty f) (awaitedType ty f) (request n t self f) (later ty) e
+
+module _ (n t : ℕ) (f : List ℕ) (b : Stream) (s : Sane (some b)) where
+  abbrev Live : ℕ → Reply → Type 0
+  Live ty v = FitsType ty n t f (some b) v
+
+  abbrev c : Request
+  c = request n t (some b) f
+
+  bad : (ty : ℕ) (e : ErrorCode) → Live ty (fail c e)
+  bad ty e = fail-type ty n t f (some b) e
+
+  queued-live : Live 0x0105 (onQueue c b)
+  unfolding onQueue
+  queued-live =
+      walk-queue (Live 0x0105) c (queueNamed (field 4 f 8)) _ (bad 0x0105) (λ q e h₁ h₂ h₃ h₄ h₅.
+      subst (λ (x : ℕ). Fits (λ w. false) (some (toBuffer x (resourceId f) (timestampSent f))) n t (me t true) (some b)
+      (reply [] (some (withQueue q (withSlots (setState (resourceId f) (queued t (timestampSent f)) (queueOf q b .slots)) (queueOf q b)) b))))
+      (sym (named-number (field 4 f 8) q e))
+      (queue-fits q n t (resourceId f) (timestampSent f) b s (not-false _ h₄) (none-is _ (not-false _ h₅))))
+
+  cleared-live : Live 0x0107 (onClear c b)
+  unfolding onClear
+  cleared-live =
+      walk-queue (Live 0x0107) c (queueNamed (field 4 f 8)) _ (bad 0x0107) (λ q e.
+      subst (λ (x : ℕ). Fits (clears x) none n t (me t false) (some b)
+      (reply (stoppedAnswers n q (buffers q b) ++ (drainAnswers n (drainEnded q b) ++ own c success ∷ [])) (some (withQueue q (cleared (queueOf q b)) (withDrain (drainLeft q b) b)))))
+      (sym (named-number (field 4 f 8) q e)) (clear-fits q n t b))
+
+  -- a command that neither adds nor pays changes one queue at most, and not what is Queued in it
+  quiet : (q : QueueType) (x : Queue) → queuedIn (x .slots) ≡ queuedIn (queueOf q b .slots)
+      → Fits (λ w. false) none n t (me t false) (some b) (reply (own c success ∷ []) (some (withQueue q x b)))
+  quiet q x h = quiet-fits n t (own c success) (some b) (some (withQueue q x b)) refl refl (same-queued q x b h)
+
+  resource-live : Live 0x0104 (onCreateResource c b)
+  unfolding onCreateResource
+  resource-live =
+      walk-queue (Live 0x0104) c (queueNamed (field 4 f 8)) _ (bad 0x0104) (λ q e h₁ h₂ h₃ h₄ h₅ h₆ h₇.
+      let x = queueOf q b .slots in
+      quiet q (withSlots (addResource (resourceId f) x) (queueOf q b)) (queued-add (resourceId f) x))
+
+  freed-live : Live 0x0106 (onDestroyAll c b)
+  unfolding onDestroyAll
+  freed-live =
+      walk-queue (Live 0x0106) c (queueNamed (field 4 f 8)) _ (bad 0x0106) (λ q e h.
+      let x = queueOf q b .slots in
+      quiet q (withSlots (freeAll x) (queueOf q b)) (queued-free x ∙ sym (empty-is _ (not-false _ h))))
+
+  got-live : Live 0x0108 (onGet c b)
+  unfolding onGet
+  got-live = walk-queue (Live 0x0108) c (queueNamed (field 4 f 8)) _ (bad 0x0108) (λ q e. quiet-fits n t (own c (parameters _)) (some b) (some b) refl refl refl)
+
+  set-live : Live 0x0109 (onSet c b)
+  unfolding onSet
+  set-live = walk-queue (Live 0x0109) c (queueNamed (field 4 f 8)) _ (bad 0x0109) (λ q e h₁ h₂ h₃ h₄. quiet q _ refl)
+
+  drain-live : Live 0x0103 (onDrain c b)
+  unfolding onDrain
+  drain-live = walk (Live 0x0103) c _ (bad 0x0103) (λ h. drain-fits n t b (none-is _ (not-false _ h)))
+
+-- a new stream owes nothing
+new-owes : (format : ℕ) → holding (some (newStream format)) ≡ holding none
+unfolding holding
+new-owes format = λ i. record { queued = λ q. nothing q i; drains = [] }
+  where
+    nothing : (q : QueueType) → buffers q (newStream format) ≡ []
+    nothing input = refl
+    nothing output = refl
+
+create-fits : (around : Surroundings) (n t : ℕ) (f : List ℕ) → FitsType 0x0101 n t f none (onCreate around (request n t none f))
+unfolding onCreate
+create-fits around n t f =
+    walk (FitsType 0x0101 n t f none) (request n t none f) _ (λ e. fail-type 0x0101 n t f none e)
+    (λ h₁ h₂ h₃ h₄ h₅. quiet-fits n t (own (request n t none f) success) none (some (newStream (codedFormat f))) refl refl (new-owes (codedFormat f)))
+
+module _ (around : Surroundings) (n t : ℕ) (f : List ℕ) where
+  abbrev OfLine : Option Stream → ℕ → Option CommandLine → Type 0
+  OfLine self ty l = FitsType ty n t f self (onLine around (request n t self f) l)
+
+  -- a line, by its length
+  line : (self : Option Stream) (l : CommandLine) → FitsType (l .type) n t f self (onStream around (request n t self f) (l .command) self)
+      → OfLine self (l .type) (some l)
+  line self l h = cond-elim (FitsType (l .type) n t f self) (wrongLength (l .length) (length f)) (λ _. fail-type (l .type) n t f self invalidParameter) (λ _. h)
+
+  create-line : (self : Option Stream) → FitsType 0x0101 n t f self (onStream around (request n t self f) create self)
+  create-line none = create-fits around n t f
+  create-line (some b) = fail-type 0x0101 n t f (some b) invalidStream
+
+  live-line : (ty : ℕ) (k : LiveCommand) (self : Option Stream) → Sane self
+      → ((b : Stream) → Sane (some b) → FitsType ty n t f (some b) (onLive k (request n t (some b) f) b)) → FitsType ty n t f self (onStream around (request n t self f) (live k) self)
+  live-line ty k none s h = fail-type ty n t f none invalidStream
+  live-line ty k (some b) s h = h b s
+
+  unsupported : (ty : ℕ) (b : Stream) → Sane (some b) → FitsType ty n t f (some b) (fail (request n t (some b) f) unsupportedControl)
+  unsupported ty b s = fail-type ty n t f (some b) unsupportedControl
+
+  -- by the table of commands
+  OfStream : Option Stream → CommandLine → Type 0
+  OfStream self l = FitsType (l .type) n t f self (onStream around (request n t self f) (l .command) self)
+
+  streams : (self : Option Stream) (s : Sane self) → Each (OfStream self) commands
+  unfolding OfStream
+  streams self s = (
+    create-line self,
+    (
+      live-line 0x0102 destroy self s (λ b _. destroy-fits (request n t (some b) f) b),
+      (
+        live-line 0x0103 drain self s (drain-live n t f),
+        (
+          live-line 0x0104 createResource self s (resource-live n t f),
+          (
+            live-line 0x0105 queueResource self s (queued-live n t f),
+            (
+              live-line 0x0106 destroyAll self s (freed-live n t f),
+              (
+                live-line 0x0107 clear self s (cleared-live n t f),
+                (
+                  live-line 0x0108 getParameters self s (got-live n t f),
+                  (
+                    live-line 0x0109 setParameters self s (set-live n t f),
+                    (
+                      live-line 0x010A queryControl self s (unsupported 0x010A),
+                      (
+                        live-line 0x010B getControl self s (unsupported 0x010B),
+                        (live-line 0x010C setControl self s (unsupported 0x010C), tt),
+                      ),
+                    ),
+                  ),
+                ),
+              ),
+            ),
+          ),
+        ),
+      ),
+    ),
+  )
+
+  command-fits : (self : Option Stream) → Sane self → (ty : ℕ) → OfLine self ty (commandOf ty)
+  unfolding OfStream
+  command-fits self s = by-type (OfLine self) (each-line (OfStream self) (λ l. OfLine self (l .type) (some l)) (line self) commands (streams self s)) (λ ty. fail-type ty n t f self invalidOperation)
+
+-- Reports
+
+module _ (n qt r flags ts : ℕ) where
+  abbrev Finish : Option Stream → Reply → Type 0
+  Finish self v = Fits (finishes qt r) none n 0 nobody self v
+
+  not-finished : (self : Option Stream) (k : ℕ) → eqb k 0 ≡ false → Finish self (refuse k self)
+  not-finished self k z = refuse-fits (finishes qt r) none n 0 k self z
+
+  finish-queue : (b : Stream) → Sane (some b) → (o : Option QueueType) → queueNamed qt ≡ o → Finish (some b) (finishQueue n r flags ts b o)
+  finish-queue b s none e = not-finished (some b) 5 refl
+  finish-queue b s (some q) e = found (bufferOf r (queuedIn (queueOf q b .slots))) refl
+    where
+      found : (x : Option Buffer) → bufferOf r (queuedIn (queueOf q b .slots)) ≡ x → Finish (some b) (finishBuffer n r flags ts b q x)
+      found none h = not-finished (some b) 5 refl
+      found (some i) h =
+          cond-elim (Finish (some b)) (badEos flags q b) (λ _. not-finished (some b) 6 refl)
+          (λ _. subst (λ (x : ℕ). Fits (finishes x r) none n 0 nobody (some b)
+          (reply (record { ticket = i .ticket; stream = n; response = bufferDone q (timestampOf q i ts) flags } ∷ [])
+          (some (withQueue q (withSlots (setState r dequeued (queueOf q b .slots)) (queueOf q b)) b))))
+          (sym (named-number qt q e))
+          (finish-fits q n r (record { ticket = i .ticket; stream = n; response = bufferDone q (timestampOf q i ts) flags }) i b s h refl refl))
+
+  finish-stream : (self : Option Stream) → Sane self → Finish self (finishStream n qt r flags ts self)
+  finish-stream none s = not-finished none 5 refl
+  finish-stream (some b) s = finish-queue b s (queueNamed qt) refl
+
+  finished : (self : Option Stream) → Sane self → Finish self (onFinish n qt r flags ts self)
+  unfolding onFinish
+  finished self s = cond-elim (Finish self) (ltb 3 flags) (λ _. not-finished self 6 refl) (λ _. finish-stream self s)
+
+drained-in : (n : ℕ) (self : Option Stream) → Fits isDrain none n 0 nobody self (onDrained n self)
+unfolding onDrained
+drained-in n none = refuse-fits isDrain none n 0 5 none refl
+drained-in n (some b) = owing (b .draining) refl
+  where
+    owing : (d : Option ℕ) → b .draining ≡ d → Fits isDrain none n 0 nobody (some b) (endDrain n b d)
+    owing none e = refuse-fits isDrain none n 0 5 (some b) refl
+    owing (some t) e =
+        cond-elim (Fits isDrain none n 0 nobody (some b)) (isEmpty (queuedIn (b .inputs .slots)))
+        (λ _. drained-fits n t b e) (λ _. refuse-fits isDrain none n 0 5 (some b) refl)
+
+-- Every step
+
+abbrev pub FitsAct : ℕ → Act → Option Stream → Reply → Type 0
+FitsAct n a = Fits (pays a) (awaitedBy a) n (ticketIn a) (ownTickets a)
+
+pub serve-fits : (around : Surroundings) (n : ℕ) (self : Option Stream) (a : Act) → Sane self → FitsAct n a self (serve around n self a)
+unfolding serve pays awaitedBy ownTickets onCommand
+serve-fits around n self (command t f) s = command-fits around n t f self s (field 4 f 0)
+serve-fits around n self (finish m qt r flags ts) s = finished n qt r flags ts self s
+serve-fits around n self (drained m) s = drained-in n self

@@ -1,0 +1,17 @@
+pub mod Places
+pub mod Slots
+pub mod Walk
+pub mod Lines
+pub mod Cases
+pub mod WellFormed
+pub mod ReadBack
+pub mod Room
+pub mod Marks
+pub mod LedgerView
+pub mod Fits
+pub mod Isolation
+pub mod Condition3
+pub mod Tables
+pub mod Refusals
+pub mod Unchanged
+pub mod TenCases

@@ -1,0 +1,251 @@
+-- The bytes of a step's answers are read back into answers, and a response's type says whether it is an error.
+use Prim.Native.Nat.{ℕ, zero, suc, _+_, _*_, _^_, _<_, _≤_}
+use native.Mathlib.Omega.{arith}
+use mathlib.Core.Path.{_≡_, refl, ap, _∙_, subst}
+use mathlib.Core.Bool.{Bool, true, false, _&&_}
+use mathlib.Core.Option.{Option, none, some}
+use mathlib.Core.List.{List, [], _∷_, _++_, map}
+use lib.ListN.{length, take, drop, length-append}
+use lib.Seq.{take-append-seam, drop-append-seam, drop-drop}
+use lib.Dec.{eqb}
+use borrow.Author.Tests.{ltb-true}
+use Rattle.laws.specs.Tests.{within}
+use Rattle.laws.specs.Lists.{allOf}
+use Rattle.laws.proofs.Tests.{both, and-left, and-right}
+use Rattle.laws.proofs.Lists.{decide, all-append, all-map}
+use Rattle.laws.proofs.Ascending.{all-ascending}
+use Rattle.field.specs.Field.{field, littleEndian}
+use Rattle.field.proofs.Laws.{field-after, field-back}
+use Rattle.model.specs.Numbers.{err}
+use Rattle.model.specs.Device.{QueueType, input, output, created, queued, dequeued, Slot, free, resource, Stream, Device, queueOf, Buffer, queuedIn, buffers, bufferOf, recordOf}
+use Rattle.model.specs.Frames.{LiveCommand, destroy, drain, createResource, queueResource, destroyAll, clear, getParameters, setParameters, queryControl, getControl, setControl, word}
+use Rattle.model.specs.Answers.{ErrorCode, invalidOperation, outOfMemory, invalidStream, invalidResource, invalidParameter, unsupportedControl, Response, success, bufferDone, drainDone, parameters, failure, Answer, words, responseBytes, response, bytesOf, readFrom, answersIn}
+use Rattle.model.specs.Replies.{Reply, Request, own, fail}
+use Rattle.model.specs.Commands.{Surroundings, stoppedAnswers, drainAnswers, onCreate, onDestroy, onDrain, onCreateResource, onQueue, onDestroyAll, drainEnded, onClear, parameterWords, onGet, onSet, onLive, onCommand}
+use Rattle.model.specs.Steps.{Act, command, finish, drained, Step, serve, Outcome, around, step, isError, saysFull}
+use Rattle.model.specs.WellFormed.{u32, goodSlot, goodDrain, wellFormed, goodAct}
+use Rattle.model.specs.Promises.{written, ReadBack}
+use Rattle.model.proofs.Walk.{walk, walk-queue}
+use Rattle.model.proofs.Cases.{named, command-cases, finish-cases, drained-cases, step-cases}
+use Rattle.model.proofs.WellFormed.{GoodStream, GoodSelf, good-queue-of, well-record}
+
+-- The type and the size of a response
+
+abbrev pub isFailure : Response → Bool
+isFailure success = false
+isFailure (bufferDone q ts flags) = false
+isFailure drainDone = false
+isFailure (parameters ws) = false
+isFailure (failure e) = true
+
+abbrev pub isFull : Response → Bool
+isFull success = false
+isFull (bufferDone q ts flags) = false
+isFull drainDone = false
+isFull (parameters ws) = false
+isFull (failure invalidOperation) = false
+isFull (failure outOfMemory) = true
+isFull (failure invalidStream) = false
+isFull (failure invalidResource) = false
+isFull (failure invalidParameter) = false
+isFull (failure unsupportedControl) = false
+
+abbrev TypeSays : ℕ → Response → Type 0
+TypeSays n r = (within (word (responseBytes n r) 0) 0x0300 0x0305 ≡ isFailure r) × (eqb (word (responseBytes n r) 0) 0x0301 ≡ isFull r)
+
+type-says : (n : ℕ) (r : Response) → TypeSays n r
+unfolding responseBytes field littleEndian within
+type-says n success = (refl, refl)
+type-says n (bufferDone q ts flags) = (refl, refl)
+type-says n drainDone = (refl, refl)
+type-says n (parameters ws) = (refl, refl)
+type-says n (failure invalidOperation) = (refl, refl)
+type-says n (failure outOfMemory) = (refl, refl)
+type-says n (failure invalidStream) = (refl, refl)
+type-says n (failure invalidResource) = (refl, refl)
+type-says n (failure invalidParameter) = (refl, refl)
+type-says n (failure unsupportedControl) = (refl, refl)
+
+pub error-is : (a : Answer) → isError (written a) ≡ isFailure (a .response)
+error-is a = (type-says (a .stream) (a .response)) .0
+
+pub full-is : (a : Answer) → saysFull (written a) ≡ isFull (a .response)
+full-is a = (type-says (a .stream) (a .response)) .1
+
+abbrev pub sizeOf : Response → ℕ
+sizeOf success = 8
+sizeOf (bufferDone q ts flags) = 24
+sizeOf drainDone = 8
+sizeOf (parameters ws) = 8 + 4 * length ws
+sizeOf (failure e) = 8
+
+length-words : (ws : List ℕ) → length (words ws) ≡ 4 * length ws
+unfolding littleEndian
+length-words [] = refl
+length-words (w ∷ ws) = omega (arith, length-words ws)
+
+pub length-response : (n : ℕ) (r : Response) → length (responseBytes n r) ≡ sizeOf r
+unfolding responseBytes littleEndian
+length-response n success = refl
+length-response n (bufferDone q ts flags) = refl
+length-response n drainDone = refl
+length-response n (parameters ws) = omega (arith, length-words ws)
+length-response n (failure e) = refl
+
+-- Reading back
+
+abbrev pub goodAnswer : Answer → Bool
+goodAnswer a = u32 (a .ticket) && u32 (length (response a))
+
+all-both : (l m : List Answer) → allOf goodAnswer l ≡ true → allOf goodAnswer m ≡ true → allOf goodAnswer (l ++ m) ≡ true
+all-both l m h k = all-append goodAnswer l m ∙ both h k
+
+read-more : (k : ℕ) (s : List ℕ) → 0 < length s
+    → readFrom (suc k) s ≡ record { ticket = word s 0; response = take (word s 4) (drop 8 s) } ∷ readFrom k (drop (8 + word s 4) s)
+unfolding readFrom
+read-more k [] h = absurd (omega arith)
+read-more k (b ∷ s) h = refl
+
+read-one : (k t : ℕ) (r rest : List ℕ) → u32 t ≡ true → u32 (length r) ≡ true
+    → readFrom (suc k) (littleEndian 4 t ++ (littleEndian 4 (length r) ++ (r ++ rest))) ≡ record { ticket = t; response = r } ∷ readFrom k rest
+unfolding littleEndian u32
+read-one k t r rest ht hr =
+    let s = littleEndian 4 t ++ (littleEndian 4 (length r) ++ (r ++ rest)) in
+    let ticket : word s 0 ≡ t = field-back 4 t (littleEndian 4 (length r) ++ (r ++ rest)) (ltb-true t (2 ^ 32) ht) in
+    let size : word s 4 ≡ length r =
+    field-after 4 (littleEndian 4 t) (littleEndian 4 (length r) ++ (r ++ rest)) 0 ∙ field-back 4 (length r) (r ++ rest) (ltb-true (length r) (2 ^ 32) hr) in
+    read-more k s (omega arith)
+    ∙ rw (ticket, size, ← drop-drop (length r) 8 s) (rw (take-append-seam r rest, drop-append-seam r rest))
+
+read-all : (l : List Answer) (k : ℕ) → length l ≤ k → allOf goodAnswer l ≡ true → readFrom k (bytesOf l) ≡ map written l
+unfolding readFrom
+read-all [] zero h g = refl
+read-all [] (suc k) h g = refl
+read-all (a ∷ l) zero h g = absurd (omega arith)
+read-all (a ∷ l) (suc k) h g =
+    let here = and-left (goodAnswer a) _ g in
+    read-one k (a .ticket) (response a) (bytesOf l) (and-left (u32 (a .ticket)) _ here) (and-right (u32 (a .ticket)) _ here)
+    ∙ ap (λ x. written a ∷ x) (read-all l k (omega arith) (and-right (goodAnswer a) _ g))
+
+length-bytes : (l : List Answer) → length l ≤ length (bytesOf l)
+unfolding littleEndian
+length-bytes [] = omega arith
+length-bytes (a ∷ l) = omega (arith, length-append (response a) (bytesOf l), length-bytes l)
+
+pub read-back-list : (l : List Answer) → allOf goodAnswer l ≡ true → answersIn (bytesOf l) ≡ map written l
+read-back-list l g = read-all l (length (bytesOf l)) (length-bytes l) g
+
+-- The answers of a step
+
+abbrev GoodAnswers : Reply → Type 0
+GoodAnswers v = allOf goodAnswer (v .answers) ≡ true
+
+answer-good : (t n : ℕ) (r : Response) → u32 t ≡ true → u32 (sizeOf r) ≡ true → goodAnswer (record { ticket = t; stream = n; response = r }) ≡ true
+answer-good t n r h k = both h (ap u32 (length-response n r) ∙ k)
+
+own-good : (c : Request) (r : Response) → u32 (c .ticket) ≡ true → u32 (sizeOf r) ≡ true → allOf goodAnswer (own c r ∷ []) ≡ true
+own-good c r h k = both (answer-good (c .ticket) (c .stream) r h k) refl
+
+abbrev goodBuffer : Buffer → Bool
+goodBuffer i = u32 (i .ticket)
+
+queued-good : (s : List Slot) → allOf goodSlot s ≡ true → allOf goodBuffer (queuedIn s) ≡ true
+queued-good [] h = refl
+queued-good (free ∷ s) h = queued-good s h
+queued-good (resource m created ∷ s) h = queued-good s (and-right (goodSlot (resource m created)) _ h)
+queued-good (resource m (queued t ts) ∷ s) h =
+    both (and-left (u32 t) _ (and-right (u32 m) _ (and-left (goodSlot (resource m (queued t ts))) _ h))) (queued-good s (and-right (goodSlot (resource m (queued t ts))) _ h))
+queued-good (resource m dequeued ∷ s) h = queued-good s (and-right (goodSlot (resource m dequeued)) _ h)
+
+found-good : (r : ℕ) (i : Buffer) (l : List Buffer) → allOf goodBuffer l ≡ true → bufferOf r l ≡ some i → goodBuffer i ≡ true
+found-good r i [] h e = cc
+found-good r i (x ∷ l) h e =
+    decide (eqb (x .resource) r)
+    (λ z. let is : some x ≡ some i = simp z at e in let same : x ≡ i = cc in subst (λ y. goodBuffer y ≡ true) same (and-left (goodBuffer x) _ h))
+    (λ z. found-good r i l (and-right (goodBuffer x) _ h) (simp z at e))
+
+queue-good : (q : QueueType) (b : Stream) → GoodStream b → allOf goodBuffer (queuedIn (queueOf q b .slots)) ≡ true
+queue-good q b g = queued-good (queueOf q b .slots) ((good-queue-of q b g) .slots .each)
+
+stopped-good : (n : ℕ) (q : QueueType) (b : Stream) → GoodStream b → allOf goodAnswer (stoppedAnswers n q (buffers q b)) ≡ true
+unfolding u32
+stopped-good n q b g =
+    all-map goodBuffer goodAnswer _ (λ i h. answer-good (i .ticket) n (bufferDone q (i .timestamp) err) h refl) (buffers q b)
+    (all-ascending (λ (i : Buffer). i .resource) goodBuffer (queuedIn (queueOf q b .slots)) (queue-good q b g))
+
+drain-good : (n : ℕ) (d : Option ℕ) → goodDrain d ≡ true → allOf goodAnswer (drainAnswers n d) ≡ true
+unfolding u32
+drain-good n none h = refl
+drain-good n (some t) h = both (answer-good t n drainDone h refl) refl
+
+ended-good : (q : QueueType) (b : Stream) → GoodStream b → goodDrain (drainEnded q b) ≡ true
+ended-good input b g = g .draining
+ended-good output b g = refl
+
+pub length-parameters : (q : QueueType) (b : Stream) → length (parameterWords q b) ≡ 28
+unfolding parameterWords
+length-parameters input b = refl
+length-parameters output b = refl
+
+module _ (c : Request) (t : u32 (c .ticket) ≡ true) where
+  succeeds : allOf goodAnswer (own c success ∷ []) ≡ true
+  unfolding u32
+  succeeds = own-good c success t refl
+
+  fails : (e : ErrorCode) → GoodAnswers (fail c e)
+  unfolding u32
+  fails e = own-good c (failure e) t refl
+
+  live-answers : (k : LiveCommand) (b : Stream) → GoodStream b → GoodAnswers (onLive k c b)
+  unfolding onDestroy onDrain onCreateResource onQueue onDestroyAll onClear onGet onSet u32
+  live-answers destroy b g =
+      let n = c .stream in
+      let i = stoppedAnswers n input (buffers input b) in
+      let o = stoppedAnswers n output (buffers output b) in
+      let d = drainAnswers n (b .draining) in
+      all-both i (o ++ (d ++ own c success ∷ [])) (stopped-good n input b g)
+      (all-both o (d ++ own c success ∷ []) (stopped-good n output b g)
+      (all-both d (own c success ∷ []) (drain-good n (b .draining) (g .draining)) succeeds))
+  live-answers drain b g = walk GoodAnswers c _ fails (λ h. refl)
+  live-answers createResource b g = walk-queue GoodAnswers c (named c) _ fails (λ q e h₁ h₂ h₃ h₄ h₅ h₆ h₇. succeeds)
+  live-answers queueResource b g = walk-queue GoodAnswers c (named c) _ fails (λ q e h₁ h₂ h₃ h₄ h₅. refl)
+  live-answers destroyAll b g = walk-queue GoodAnswers c (named c) _ fails (λ q e h. succeeds)
+  live-answers clear b g =
+      walk-queue GoodAnswers c (named c) _ fails (λ q e.
+      let n = c .stream in
+      let d = drainAnswers n (drainEnded q b) in
+      all-both (stoppedAnswers n q (buffers q b)) (d ++ own c success ∷ []) (stopped-good n q b g)
+      (all-both d (own c success ∷ []) (drain-good n (drainEnded q b) (ended-good q b g)) succeeds))
+  live-answers getParameters b g =
+      walk-queue GoodAnswers c (named c) _ fails (λ q e. own-good c (parameters (parameterWords q b)) t (ap (λ k. u32 (8 + 4 * k)) (length-parameters q b)))
+  live-answers setParameters b g = walk-queue GoodAnswers c (named c) _ fails (λ q e h₁ h₂ h₃ h₄. succeeds)
+  live-answers queryControl b g = fails unsupportedControl
+  live-answers getControl b g = fails unsupportedControl
+  live-answers setControl b g = fails unsupportedControl
+
+  command-answers : (around : Surroundings) → GoodSelf (c .self) → GoodAnswers (onCommand around c)
+  unfolding onCreate
+  command-answers around g =
+      command-cases GoodAnswers around c fails
+      (λ e. walk GoodAnswers c _ fails (λ h₁ h₂ h₃ h₄ h₅. succeeds))
+      (λ k b e. live-answers k b (subst GoodSelf e g))
+
+pub serve-answers : (around : Surroundings) (n : ℕ) (self : Option Stream) (a : Act) → GoodSelf self → goodAct a ≡ true
+    → allOf goodAnswer (serve around n self a .answers) ≡ true
+unfolding serve u32
+serve-answers around n self (command t f) g m = command-answers (record { stream = n; ticket = t; frame = f; self = self }) (and-left (u32 t) _ m) around g
+serve-answers around n self (finish k qt r flags ts) g m =
+    finish-cases GoodAnswers n qt r flags ts self refl refl
+    (λ q b i e f. both (answer-good (i .ticket) n _ (found-good r i (queuedIn (queueOf q b .slots)) (queue-good q b (subst GoodSelf e g)) f) refl) refl)
+serve-answers around n self (drained k) g m =
+    drained-cases GoodAnswers n self refl
+    (λ b t e f. let s : GoodStream b = subst GoodSelf e g in
+    both (answer-good t n drainDone (subst (λ d. goodDrain d ≡ true) f (s .draining)) refl) refl)
+
+pub step-answers : (d : Device) (s : Step) → wellFormed d ≡ true → goodAct (s .act) ≡ true → allOf goodAnswer (step d s .answers) ≡ true
+step-answers d s h m =
+    step-cases (λ (o : Outcome). allOf goodAnswer (o .answers) ≡ true) d s (λ k. refl)
+    (λ n e. serve-answers (around d) n (recordOf n d) (s .act) (well-record n d h) m)
+
+pub read-back : ReadBack
+read-back d s h m = read-back-list (step d s .answers) (step-answers d s h m)

@@ -1,0 +1,125 @@
+-- A step writes no more than the room that it must be lent.
+use Prim.Native.Nat.{ℕ, _+_, _*_, _≤_}
+use native.Mathlib.Omega.{arith}
+use mathlib.Core.Path.{_≡_, refl, subst}
+use mathlib.Core.Option.{Option, none, some}
+use mathlib.Core.List.{List, [], _∷_, _++_}
+use lib.ListN.{length, length-append}
+use Rattle.field.specs.Field.{littleEndian}
+use Rattle.model.specs.Numbers.{answerRoom, err}
+use Rattle.model.specs.Device.{QueueType, input, output, created, queued, dequeued, Slot, free, resource, Stream, queueOf, Buffer, queuedIn, buffers, recordOf}
+use Rattle.model.specs.Frames.{LiveCommand, destroy, drain, createResource, queueResource, destroyAll, clear, getParameters, setParameters, queryControl, getControl, setControl}
+use Rattle.model.specs.Answers.{ErrorCode, unsupportedControl, Response, success, bufferDone, drainDone, parameters, failure, Answer, responseBytes, bytesOf}
+use Rattle.model.specs.Replies.{Reply, Request, own, fail}
+use Rattle.model.specs.Commands.{Surroundings, stoppedAnswers, drainAnswers, onCreate, onDestroy, onDrain, onCreateResource, onQueue, onDestroyAll, drainEnded, onClear, parameterWords, onGet, onSet, onLive, onCommand}
+use Rattle.model.specs.Reports.{timestampOf}
+use Rattle.model.specs.Steps.{Act, command, finish, drained, serve, Outcome, around}
+use Rattle.model.specs.Promises.{FitsRoom}
+use Rattle.laws.proofs.Ascending.{length-ascending}
+use Rattle.model.proofs.Walk.{walk, walk-queue}
+use Rattle.model.proofs.Cases.{named, command-cases, finish-cases, drained-cases, step-cases}
+use Rattle.model.proofs.WellFormed.{GoodStream, GoodSelf, good-queue-of, well-record}
+use Rattle.model.proofs.ReadBack.{sizeOf, length-response, length-parameters}
+
+abbrev size : List Answer → ℕ
+size l = length (bytesOf l)
+
+size-cons : (t n : ℕ) (r : Response) (l : List Answer) → size (record { ticket = t; stream = n; response = r } ∷ l) ≡ 8 + sizeOf r + size l
+unfolding littleEndian
+size-cons t n r l = omega (arith, length-append (responseBytes n r) (bytesOf l), length-response n r)
+
+size-append : (l m : List Answer) → size (l ++ m) ≡ size l + size m
+size-append [] m = omega arith
+size-append (a ∷ l) m =
+    omega (arith, size-cons (a .ticket) (a .stream) (a .response) (l ++ m), size-cons (a .ticket) (a .stream) (a .response) l, size-append l m)
+
+size-stopped : (n : ℕ) (q : QueueType) (l : List Buffer) → size (stoppedAnswers n q l) ≡ 32 * length l
+size-stopped n q [] = refl
+size-stopped n q (i ∷ l) = omega (arith, size-cons (i .ticket) n (bufferDone q (i .timestamp) err) (stoppedAnswers n q l), size-stopped n q l)
+
+size-drain : (n : ℕ) (d : Option ℕ) → size (drainAnswers n d) ≤ 16
+size-drain n none = omega arith
+size-drain n (some t) = omega (arith, size-cons t n drainDone [])
+
+length-queued : (s : List Slot) → length (queuedIn s) ≤ length s
+length-queued [] = omega arith
+length-queued (free ∷ s) = omega (arith, length-queued s)
+length-queued (resource m created ∷ s) = omega (arith, length-queued s)
+length-queued (resource m (queued t ts) ∷ s) = omega (arith, length-queued s)
+length-queued (resource m dequeued ∷ s) = omega (arith, length-queued s)
+
+stopped-fit : (n : ℕ) (q : QueueType) (b : Stream) → GoodStream b → size (stoppedAnswers n q (buffers q b)) ≤ 512
+stopped-fit n q b g =
+    let s = queueOf q b .slots in
+    omega (arith, size-stopped n q (buffers q b), length-ascending (λ (i : Buffer). i .resource) (queuedIn s), length-queued s, (good-queue-of q b g) .slots .size)
+
+abbrev Fits : Reply → Type 0
+Fits v = size (v .answers) ≤ answerRoom
+
+size-own : (c : Request) (r : Response) → size (own c r ∷ []) ≡ 8 + sizeOf r
+size-own c r = omega (arith, size-cons (c .ticket) (c .stream) r [])
+
+succeeds : (c : Request) → size (own c success ∷ []) ≤ answerRoom
+succeeds c = omega (arith, size-own c success)
+
+fails : (c : Request) (e : ErrorCode) → Fits (fail c e)
+fails c e = omega (arith, size-own c (failure e))
+
+live-fits : (k : LiveCommand) (c : Request) (b : Stream) → GoodStream b → Fits (onLive k c b)
+unfolding onDestroy onDrain onCreateResource onQueue onDestroyAll onClear onGet onSet
+live-fits destroy c b g =
+    let n = c .stream in
+    let i = stoppedAnswers n input (buffers input b) in
+    let o = stoppedAnswers n output (buffers output b) in
+    let d = drainAnswers n (b .draining) in
+    omega (
+      arith,
+      size-append i (o ++ (d ++ own c success ∷ [])),
+      size-append o (d ++ own c success ∷ []),
+      size-append d (own c success ∷ []),
+      stopped-fit n input b g,
+      stopped-fit n output b g,
+      size-drain n (b .draining),
+      size-own c success,
+    )
+live-fits drain c b g = walk Fits c _ (fails c) (λ h. omega arith)
+live-fits createResource c b g = walk-queue Fits c (named c) _ (fails c) (λ q e h₁ h₂ h₃ h₄ h₅ h₆ h₇. succeeds c)
+live-fits queueResource c b g = walk-queue Fits c (named c) _ (fails c) (λ q e h₁ h₂ h₃ h₄ h₅. omega arith)
+live-fits destroyAll c b g = walk-queue Fits c (named c) _ (fails c) (λ q e h. succeeds c)
+live-fits clear c b g =
+    walk-queue Fits c (named c) _ (fails c) (λ q e.
+    let n = c .stream in
+    let d = drainAnswers n (drainEnded q b) in
+    omega (
+      arith,
+      size-append (stoppedAnswers n q (buffers q b)) (d ++ own c success ∷ []),
+      size-append d (own c success ∷ []),
+      stopped-fit n q b g,
+      size-drain n (drainEnded q b),
+      size-own c success,
+    ))
+live-fits getParameters c b g =
+    walk-queue Fits c (named c) _ (fails c) (λ q e. omega (arith, size-own c (parameters (parameterWords q b)), length-parameters q b))
+live-fits setParameters c b g = walk-queue Fits c (named c) _ (fails c) (λ q e h₁ h₂ h₃ h₄. succeeds c)
+live-fits queryControl c b g = fails c unsupportedControl
+live-fits getControl c b g = fails c unsupportedControl
+live-fits setControl c b g = fails c unsupportedControl
+
+command-fits : (around : Surroundings) (c : Request) → GoodSelf (c .self) → Fits (onCommand around c)
+unfolding onCreate
+command-fits around c g =
+    command-cases Fits around c (fails c)
+    (λ e. walk Fits c _ (fails c) (λ h₁ h₂ h₃ h₄ h₅. succeeds c))
+    (λ k b e. live-fits k c b (subst GoodSelf e g))
+
+serve-fits : (around : Surroundings) (n : ℕ) (self : Option Stream) (a : Act) → GoodSelf self → Fits (serve around n self a)
+unfolding serve
+serve-fits around n self (command t f) g = command-fits around (record { stream = n; ticket = t; frame = f; self = self }) g
+serve-fits around n self (finish k qt r flags ts) g =
+    finish-cases Fits n qt r flags ts self (omega arith) (omega arith) (λ q b i e f. omega (arith, size-cons (i .ticket) n (bufferDone q (timestampOf q i ts) flags) []))
+serve-fits around n self (drained k) g = drained-cases Fits n self (omega arith) (λ b t e f. omega (arith, size-cons t n drainDone []))
+
+pub fits-room : FitsRoom
+fits-room d s h =
+    step-cases (λ (o : Outcome). size (o .answers) ≤ answerRoom) d s (λ k. omega arith)
+    (λ n e. serve-fits (around d) n (recordOf n d) (s .act) (well-record n d h))

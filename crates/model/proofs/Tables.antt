@@ -1,0 +1,171 @@
+-- Over any layout: what a step leaves of the table and the room, and condition 3 over tables.
+use Prim.Native.Nat.{ℕ, _≤_}
+use native.Mathlib.Omega.{arith}
+use mathlib.Core.Path.{_≡_, refl, sym, ap, ap₂, _∙_, subst}
+use mathlib.Core.Bool.{Bool, true, false, cond}
+use mathlib.Core.List.{List, [], _∷_, _++_}
+use lib.ListN.{length, take, drop, length-append}
+use lib.Seq.{take-at, drop-at}
+use lib.Dec.{eqb, ltb}
+use borrow.Author.Tests.{ltb-false, le-ltb}
+use Rattle.laws.specs.Lists.{allOf, same}
+use Rattle.laws.proofs.Tests.{never, both, and-left, and-right}
+use Rattle.laws.proofs.Lists.{decide, all-keep}
+use Rattle.laws.proofs.Same.{same-refl}
+use Rattle.model.specs.Numbers.{tableWords, answerRoom}
+use Rattle.model.specs.Device.{Device, fresh, recordOf}
+use Rattle.model.specs.Answers.{bytesOf}
+use Rattle.model.specs.Steps.{Step, streamOf, Outcome, perform, hostRefusal, step, Entry, entryOf, log, final}
+use Rattle.model.specs.WellFormed.{wellFormed, goodAct, goodSteps}
+use Rattle.model.specs.Tables.{Layout, Effect, untouched, valid, carriedOut, effect, freshen, effectOf, tableEntry, tableLog, tableFinal}
+use Rattle.model.specs.Condition3.{Run, ownEntries, stepsOf, Condition3, onDevice, onTable, OnTables}
+use Rattle.model.proofs.WellFormed.{well-fresh, stays-well-formed}
+use Rattle.model.proofs.Condition3.{condition3}
+use Rattle.model.proofs.Isolation.{step-runs, step-refused, roomRefusal}
+
+-- The host's first tests
+
+pub record Lent (words room : ℕ) (v : Bool) : Type 0 where
+  pub enough : tableWords ≤ words
+  pub spacious : answerRoom ≤ room
+  pub good : v ≡ true
+
+pub not-refused : (words room : ℕ) (v : Bool) → eqb (hostRefusal words room v) 0 ≡ true → Lent words room v
+unfolding hostRefusal
+not-refused words room v e =
+    decide (ltb words tableWords) (λ w. never (sym (simp w at e))) (λ w.
+    decide (ltb room answerRoom) (λ r. never (sym (simp (w, r) at e))) (λ r.
+    record { enough = ltb-false words tableWords w; spacious = ltb-false room answerRoom r; good = of v (simp (w, r) at e) }))
+  where
+    of : (x : Bool) → eqb (cond x 0 2) 0 ≡ true → x ≡ true
+    of true h = refl
+    of false h = never (sym h)
+
+-- of a table that is long enough and valid only the room is tested
+pub valid-refusal : (words room : ℕ) (v : Bool) → tableWords ≤ words → v ≡ true → hostRefusal words room v ≡ hostRefusal tableWords room true
+unfolding hostRefusal
+valid-refusal words room v h e = simp (le-ltb words tableWords h, e)
+
+-- The words of a device, with any words behind them
+
+module _ (L : Layout) (rest : List ℕ) where
+  abbrev pub wordsOf : Device → List ℕ
+  wordsOf d = L .encode d ++ rest
+
+  module _ (d : Device) (h : wellFormed d ≡ true) where
+    used : take tableWords (wordsOf d) ≡ L .encode d
+    used = take-at (L .encode d) rest tableWords (L .size d h)
+
+    behind : drop tableWords (wordsOf d) ≡ rest
+    behind = drop-at (L .encode d) rest tableWords (L .size d h)
+
+    device-is : L .decode (take tableWords (wordsOf d)) ≡ d
+    device-is = ap (L .decode) used ∙ L .back d h
+
+    long : tableWords ≤ length (wordsOf d)
+    long = omega (arith, length-append (L .encode d) rest, L .size d h)
+
+    pub words-valid : valid L (wordsOf d) ≡ true
+    unfolding valid
+    words-valid = both (ap wellFormed device-is ∙ h) (ap₂ same used (ap (L .encode) device-is) ∙ same-refl (L .encode d))
+
+    -- a step on the words does what it does on the device
+    same-effect : (s : Step) → (tableEntry L s (effectOf L (wordsOf d) s) ≡ entryOf s (step d s)) × (effectOf L (wordsOf d) s .table ≡ wordsOf (step d s .device))
+    unfolding effect
+    same-effect s =
+        let t = wordsOf d in
+        let k : hostRefusal (length t) (length (s .room)) (valid L t) ≡ roomRefusal s = valid-refusal (length t) (length (s .room)) (valid L t) long words-valid in
+        decide (eqb (roomRefusal s) 0)
+        (λ e.
+        let o = perform d (s .act) (streamOf (s .act)) in
+        let is : effectOf L t s ≡ carriedOut L o t (s .room) = simp (k, e) (ap (λ (x : Device). carriedOut L (perform x (s .act) (streamOf (s .act))) t (s .room)) device-is) in (
+          ap (tableEntry L s) is ∙ (λ i. record {
+            step = s;
+            refusal = o .refusal;
+            written = length (bytesOf (o .answers));
+            bytes = take-at (bytesOf (o .answers)) (drop (length (bytesOf (o .answers))) (s .room)) (length (bytesOf (o .answers))) refl i;
+          }) ∙ ap (entryOf s) (sym (step-runs d s e)),
+          ap (λ (x : Effect). x .table) is ∙ ap (λ (x : List ℕ). L .encode (o .device) ++ x) behind ∙ ap (λ (x : Outcome). wordsOf (x .device)) (sym (step-runs d s e)),
+        ))
+        (λ e.
+        let is : effectOf L t s ≡ untouched (roomRefusal s) t (s .room) = simp (k, e) in
+        (ap (tableEntry L s) is ∙ ap (entryOf s) (sym (step-refused d s e)), ap (λ (x : Effect). x .table) is ∙ ap (λ (x : Outcome). wordsOf (x .device)) (sym (step-refused d s e))))
+
+  -- and so over a list
+
+  same-log : (d : Device) (ss : List Step) → wellFormed d ≡ true → goodSteps ss ≡ true → tableLog L (wordsOf d) ss ≡ log d ss
+  same-log d [] h m = refl
+  same-log d (s ∷ ss) h m =
+      let here = same-effect d h s in
+      ap₂ (λ (x : Entry) (y : List Entry). x ∷ y) (here .0)
+      (ap (λ (t : List ℕ). tableLog L t ss) (here .1)
+      ∙ same-log (step d s .device) ss (stays-well-formed d s h (and-left (goodAct (s .act)) (goodSteps ss) m)) (and-right (goodAct (s .act)) (goodSteps ss) m))
+
+  same-final : (d : Device) (ss : List Step) → wellFormed d ≡ true → goodSteps ss ≡ true → tableFinal L (wordsOf d) ss ≡ wordsOf (final d ss)
+  same-final d [] h m = refl
+  same-final d (s ∷ ss) h m =
+      ap (λ (t : List ℕ). tableFinal L t ss) (same-effect d h s .1)
+      ∙ same-final (step d s .device) ss (stays-well-formed d s h (and-left (goodAct (s .act)) (goodSteps ss) m)) (and-right (goodAct (s .act)) (goodSteps ss) m)
+
+final-well : (d : Device) (ss : List Step) → wellFormed d ≡ true → goodSteps ss ≡ true → wellFormed (final d ss) ≡ true
+final-well d [] h m = h
+final-well d (s ∷ ss) h m =
+    final-well (step d s .device) ss (stays-well-formed d s h (and-left (goodAct (s .act)) (goodSteps ss) m)) (and-right (goodAct (s .act)) (goodSteps ss) m)
+
+-- Condition 3 over tables
+
+-- a list shows the same on a fresh table as on a fresh device
+module _ (L : Layout) (t : List ℕ) (h : tableWords ≤ length t) where
+  start : freshen L t .table ≡ wordsOf L (drop tableWords t) fresh
+  unfolding freshen
+  start = simp (le-ltb (length t) tableWords h)
+
+  pub same-run : (ss : List Step) → goodSteps ss ≡ true → onTable L t ss ≡ onDevice ss
+  same-run ss m =
+      let rest = drop tableWords t in
+      let entries : tableLog L (freshen L t .table) ss ≡ log fresh ss = ap (λ (x : List ℕ). tableLog L x ss) start ∙ same-log L rest fresh ss well-fresh m in
+      let held : L .decode (take tableWords (tableFinal L (freshen L t .table) ss)) ≡ final fresh ss =
+      ap (λ (x : List ℕ). L .decode (take tableWords (tableFinal L x ss))) start
+      ∙ ap (λ (x : List ℕ). L .decode (take tableWords x)) (same-final L rest fresh ss well-fresh m)
+      ∙ device-is L rest (final fresh ss) (final-well fresh ss well-fresh m) in
+      λ i. record { entries = entries i; held = λ n. recordOf n (held i) }
+
+  end-valid : (ss : List Step) → goodSteps ss ≡ true → valid L (tableFinal L (freshen L t .table) ss) ≡ true
+  end-valid ss m =
+      let rest = drop tableWords t in
+      ap (λ (x : List ℕ). valid L (tableFinal L x ss)) start
+      ∙ ap (valid L) (same-final L rest fresh ss well-fresh m)
+      ∙ words-valid L rest (final fresh ss) (final-well fresh ss well-fresh m)
+
+-- the steps of a stream are steps in the host's types
+
+good-log : (d : Device) (ss : List Step) → goodSteps ss ≡ true → allOf (λ (e : Entry). goodAct (e .step .act)) (log d ss) ≡ true
+good-log d [] m = refl
+good-log d (s ∷ ss) m = both (and-left (goodAct (s .act)) (goodSteps ss) m) (good-log (step d s .device) ss (and-right (goodAct (s .act)) (goodSteps ss) m))
+
+good-steps : (es : List Entry) → allOf (λ (e : Entry). goodAct (e .step .act)) es ≡ true → goodSteps (stepsOf es) ≡ true
+good-steps [] m = refl
+good-steps (e ∷ es) m = both (and-left (goodAct (e .step .act)) _ m) (good-steps es (and-right (goodAct (e .step .act)) _ m))
+
+-- the same run, with another way to run steps alone that shows the same
+other-alone : (run : Run) (alone alone′ : List Step → Run) → ((n : ℕ) → alone (stepsOf (ownEntries n (run .entries))) ≡ alone′ (stepsOf (ownEntries n (run .entries))))
+    → Condition3 run alone′ → Condition3 run alone
+other-alone run alone alone′ same c =
+    record {
+      isolated = λ n h.
+          let a = c .isolated n h in
+          (a .0 ∙ ap (λ (r : Run). r .entries) (sym (same n)), a .1 ∙ ap (λ (r : Run). r .held n) (sym (same n)));
+      answered = c .answered;
+      owes = c .owes;
+      once = c .once;
+      destroyed = c .destroyed;
+    }
+
+pub on-tables : (L : Layout) → OnTables L
+on-tables L t u ss h g m = (
+  subst (λ (r : Run). Condition3 r (onTable L u)) (sym (same-run L t h ss m))
+      (other-alone (onDevice ss) (onTable L u) onDevice
+      (λ n. same-run L u g (stepsOf (ownEntries n (log fresh ss))) (good-steps (ownEntries n (log fresh ss)) (all-keep _ _ (log fresh ss) (good-log fresh ss m))))
+      (condition3 ss m)),
+  end-valid L t h ss m,
+)

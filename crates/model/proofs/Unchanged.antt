@@ -1,0 +1,226 @@
+-- What a step leaves alone: all where it is refused or answered by an error; the words and bytes behind, and validity, always.
+use Prim.Native.Nat.{ℕ, _≤_}
+use native.Mathlib.Omega.{arith}
+use mathlib.Core.Path.{_≡_, refl, sym, ap, _∙_, subst}
+use mathlib.Core.Bool.{Bool, true, false, not, _&&_}
+use mathlib.Core.Option.{Option, none, some}
+use mathlib.Core.List.{List, [], _∷_, _++_, map}
+use lib.ListN.{length, take, drop, length-append, length-drop, take-append-drop}
+use lib.Seq.{take-at, drop-at}
+use lib.Dec.{eqb}
+use Rattle.laws.specs.Lists.{anyOf, same}
+use Rattle.laws.proofs.Tests.{never, and-left, and-right}
+use Rattle.laws.proofs.Lists.{decide}
+use Rattle.laws.proofs.Same.{same-true}
+use Rattle.field.specs.Field.{field, littleEndian}
+use Rattle.model.specs.Numbers.{tableWords}
+use Rattle.model.specs.Device.{Stream, Device, recordOf, put}
+use Rattle.model.specs.Answers.{ErrorCode, failure, words, responseBytes, bytesOf, answersIn}
+use Rattle.model.specs.Replies.{Reply, refuse}
+use Rattle.model.specs.Steps.{Act, command, finish, drained, Step, streamOf, serve, Outcome, refused, around, perform, hostRefusal, step, accepted, entryOf}
+use Rattle.model.specs.WellFormed.{wellFormed, goodAct}
+use Rattle.model.specs.Tables.{Layout, Effect, untouched, valid, carriedOut, effect, tableEntry}
+use Rattle.model.specs.Promises.{written, RefusalChangesNothing, OneError, ErrorChangesNothing, RestStays, KeepsRest, StaysValid}
+use Rattle.model.specs.Ledger.{ticketIn}
+use Rattle.model.proofs.Places.{put-self}
+use Rattle.model.proofs.Cases.{finish-cases, drained-cases}
+use Rattle.model.proofs.WellFormed.{well-apart, stays-well-formed}
+use Rattle.model.proofs.ReadBack.{read-back}
+use Rattle.model.proofs.Room.{fits-room}
+use Rattle.model.proofs.Fits.{fails, acceptedReply, Rejected, byHost, byError, FitsAct, serve-fits}
+use Rattle.model.proofs.Isolation.{step-runs}
+use Rattle.model.proofs.Condition3.{sane-record, stream-is, accepted-is}
+use Rattle.model.proofs.Tables.{Lent, not-refused, valid-refusal, words-valid}
+
+abbrev acceptedOutcome : Outcome → Bool
+acceptedOutcome o = eqb (o .refusal) 0 && not (anyOf fails (o .answers))
+
+-- not accepted: a refusal number, or one error answer to a command; the device stays
+data NotAccepted (d : Device) (a : Act) : Outcome → Type 0 where
+  numbered : (k : ℕ) → eqb k 0 ≡ false → NotAccepted d a (refused k d)
+  answered : (t : ℕ) (f : List ℕ) (e : ErrorCode) → a ≡ command t f
+      → NotAccepted d a (record { refusal = 0; answers = record { ticket = t; stream = field 4 f 4; response = failure e } ∷ []; device = d })
+
+abbrev outcomeOf : Device → ℕ → Reply → Outcome
+outcomeOf d n v = record { refusal = v .refusal; answers = v .answers; device = put n (v .next) d }
+
+-- a report that is not accepted has a number
+abbrev Numbered : Reply → Type 0
+Numbered v = acceptedReply v ≡ false → eqb (v .refusal) 0 ≡ false
+
+module _ (d : Device) (h : wellFormed d ≡ true) (n : ℕ) where
+  abbrev self : Option Stream
+  self = recordOf n d
+
+  back : put n self d ≡ d
+  back = put-self n d (well-apart d h)
+
+  by-number : (a : Act) (k : ℕ) → eqb k 0 ≡ false → NotAccepted d a (outcomeOf d n (refuse k self))
+  by-number a k z = subst (λ (x : Device). NotAccepted d a (record { refusal = k; answers = []; device = x })) (sym back) (numbered k z)
+
+  -- by a number, or a command by an error
+  asked : (t : ℕ) (f : List ℕ) (v : Reply) → n ≡ field 4 f 4 → Rejected n t self v → NotAccepted d (command t f) (outcomeOf d n v)
+  asked t f _ s (byHost k z) = by-number (command t f) k z
+  asked t f _ s (byError e) =
+      subst (λ (x : Device). NotAccepted d (command t f) (record { refusal = 0; answers = record { ticket = t; stream = n; response = failure e } ∷ []; device = x })) (sym back)
+      (subst (λ (m : ℕ). NotAccepted d (command t f) (record { refusal = 0; answers = record { ticket = t; stream = m; response = failure e } ∷ []; device = d })) (sym s)
+      (answered t f e refl))
+
+  report : (a : Act) (v : Reply) → Rejected n (ticketIn a) self v → eqb (v .refusal) 0 ≡ false → NotAccepted d a (outcomeOf d n v)
+  report a _ (byHost k z) e = by-number a k z
+  report a _ (byError x) e = never e
+
+  numbered-report : (a : Act) (v : Reply) → Rejected n (ticketIn a) self v → Numbered v → acceptedReply v ≡ false → NotAccepted d a (outcomeOf d n v)
+  numbered-report a v r h acc = report a v r (h acc)
+
+  named : (a : Act) → streamOf a ≡ some n → acceptedReply (serve (around d) n self a) ≡ false → NotAccepted d a (outcomeOf d n (serve (around d) n self a))
+  unfolding serve
+  named a s acc = of a s acc (fit a .rejected (sym (fit a .is) ∙ acc))
+    where
+      fit : (a : Act) → FitsAct n a self (serve (around d) n self a)
+      fit a = serve-fits (around d) n self a (sane-record n d h)
+
+      of : (a : Act) → streamOf a ≡ some n → acceptedReply (serve (around d) n self a) ≡ false → Rejected n (ticketIn a) self (serve (around d) n self a)
+          → NotAccepted d a (outcomeOf d n (serve (around d) n self a))
+      of (command t f) s acc r = asked t f (serve (around d) n self (command t f)) (stream-is (command t f) n s) r
+      of (finish m qt x flags ts) s acc r =
+          numbered-report (finish m qt x flags ts) (serve (around d) n self (finish m qt x flags ts)) r
+          (finish-cases Numbered n qt x flags ts self (λ _. refl) (λ _. refl) (λ q b i e f z. never z)) acc
+      of (drained m) s acc r =
+          numbered-report (drained m) (serve (around d) n self (drained m)) r (drained-cases Numbered n self (λ _. refl) (λ b t e f z. never z)) acc
+
+not-accepted : (d : Device) (a : Act) → wellFormed d ≡ true → acceptedOutcome (perform d a (streamOf a)) ≡ false → NotAccepted d a (perform d a (streamOf a))
+not-accepted d a h = of (streamOf a) refl
+  where
+    of : (o : Option ℕ) → streamOf a ≡ o → acceptedOutcome (perform d a o) ≡ false → NotAccepted d a (perform d a o)
+    of none e z = numbered 4 refl
+    of (some n) e z = named d h n a e z
+
+-- Over tables
+
+module _ (L : Layout) (t : List ℕ) (a : Act) (room : List ℕ) where
+  abbrev k : ℕ
+  k = hostRefusal (length t) (length room) (valid L t)
+
+  abbrev device : Device
+  device = L .decode (take tableWords t)
+
+  abbrev outcome : Outcome
+  outcome = perform device a (streamOf a)
+
+  abbrev it : Effect
+  it = effect L t a room
+
+  abbrev asStep : Step
+  asStep = record { act = a; room = room }
+
+  it-refused : eqb k 0 ≡ false → it ≡ untouched k t room
+  unfolding effect
+  it-refused e = simp e
+
+  module _ (e : eqb k 0 ≡ true) where
+    carried : it ≡ carriedOut L outcome t room
+    unfolding effect
+    carried = simp e
+
+    abbrev lent : Lent (length t) (length room) (valid L t)
+    lent = not-refused (length t) (length room) (valid L t) e
+
+    well : wellFormed device ≡ true
+    unfolding valid
+    well = and-left (wellFormed device) (same (take tableWords t) (L .encode device)) (lent .good)
+
+    -- the device's words, and those behind them, are the table
+    stays : L .encode device ++ drop tableWords t ≡ t
+    unfolding valid
+    stays =
+        ap (λ (x : List ℕ). x ++ drop tableWords t) (sym (same-true (take tableWords t) (L .encode device) (and-right (wellFormed device) (same (take tableWords t) (L .encode device)) (lent .good))))
+        ∙ take-append-drop tableWords t
+
+    stepped : step device asStep ≡ outcome
+    stepped =
+        step-runs device asStep
+        (ap (λ (j : ℕ). eqb j 0) (sym (valid-refusal (length t) (length room) (valid L t) (lent .enough) (lent .good))) ∙ e)
+
+    bytes : List ℕ
+    bytes = bytesOf (outcome .answers)
+
+    fits : length (bytesOf (outcome .answers)) ≤ length room
+    fits = omega (arith, ap (λ (o : Outcome). length (bytesOf (o .answers))) stepped, fits-room device asStep well, lent .spacious)
+
+    still-well : goodAct a ≡ true → wellFormed (outcome .device) ≡ true
+    still-well m = ap (λ (o : Outcome). wellFormed (o .device)) (sym stepped) ∙ stays-well-formed device asStep well m
+
+    -- a refusal of the step itself
+    numbers : (o : Outcome) → NotAccepted device a o → eqb (o .refusal) 0 ≡ false → carriedOut L o t room ≡ untouched (o .refusal) t room
+    numbers _ (numbered j z) h = ap (λ (x : List ℕ). record { refusal = j; written = 0; table = x; room = room }) stays
+    numbers _ (answered u f x is) h = never h
+
+    -- an error answer
+    errors : (o : Outcome) → NotAccepted device a o → o .refusal ≡ 0 → OneError t a (carriedOut L o t room)
+    unfolding responseBytes littleEndian
+    errors _ (numbered j z) h = never (sym (ap (λ (x : ℕ). eqb x 0) h) ∙ z)
+    errors _ (answered u f x is) h = record { ticket = u; frame = f; error = x; asked = is; answer = refl; stays = stays }
+
+    shows : tableEntry L asStep it ≡ entryOf asStep outcome
+    shows =
+        ap (tableEntry L asStep) carried
+        ∙ (λ i. record {
+          step = asStep;
+          refusal = outcome .refusal;
+          written = length (bytesOf (outcome .answers));
+          bytes = take-at (bytesOf (outcome .answers)) (drop (length (bytesOf (outcome .answers))) room) (length (bytesOf (outcome .answers))) refl i;
+        })
+
+    rest : goodAct a ≡ true → RestStays t room it
+    rest m =
+        let b = bytesOf (outcome .answers) in
+        let w = L .encode (outcome .device) in
+        let size : length w ≡ tableWords = L .size (outcome .device) (still-well m) in
+        let long = lent .enough in
+        let room-fits = fits in
+        subst (RestStays t room) (sym carried)
+        (record {
+          words = drop-at w (drop tableWords t) tableWords size;
+          wordCount = omega (arith, length-append w (drop tableWords t), size, length-drop tableWords t);
+          bytes = drop-at b (drop (length b) room) (length b) refl;
+          byteCount = omega (arith, length-append b (drop (length b) room), length-drop (length b) room);
+        })
+
+    still-valid : goodAct a ≡ true → valid L (it .table) ≡ true
+    still-valid m = ap (λ (x : Effect). valid L (x .table)) carried ∙ words-valid L (drop tableWords t) (outcome .device) (still-well m)
+
+pub refusal-changes-nothing : (L : Layout) → RefusalChangesNothing L
+refusal-changes-nothing L t a room r =
+    decide (eqb (k L t a room) 0)
+    (λ e.
+    let none-zero : eqb (outcome L t a room .refusal) 0 ≡ false = ap (λ (x : Effect). eqb (x .refusal) 0) (sym (carried L t a room e)) ∙ r in
+    carried L t a room e
+    ∙ numbers L t a room e (outcome L t a room)
+    (not-accepted (device L t a room) a (well L t a room e) (simp none-zero)) none-zero
+    ∙ ap (λ (x : Effect). untouched (x .refusal) t room) (sym (carried L t a room e)))
+    (λ e. it-refused L t a room e ∙ ap (λ (x : Effect). untouched (x .refusal) t room) (sym (it-refused L t a room e)))
+
+pub error-changes-nothing : (L : Layout) → ErrorChangesNothing L
+error-changes-nothing L t s m z acc =
+    let a = s .act in
+    let room = s .room in
+    decide (eqb (k L t a room) 0)
+    (λ e.
+    let d = device L t a room in
+    let o = outcome L t a room in
+    let refusal : o .refusal ≡ 0 = ap (λ (x : Effect). x .refusal) (sym (carried L t a room e)) ∙ z in
+    let read = subst (λ (x : Outcome). answersIn (bytesOf (x .answers)) ≡ map written (x .answers)) (stepped L t a room e) (read-back d (asStep L t a room) (well L t a room e) m) in
+    let no : acceptedOutcome o ≡ false = sym (accepted-is s o read) ∙ ap accepted (sym (shows L t a room e)) ∙ acc in
+    subst (OneError t a) (sym (carried L t a room e)) (errors L t a room e o (not-accepted d a (well L t a room e) no) refusal))
+    (λ e. never (sym (ap (λ (x : ℕ). eqb x 0) z) ∙ ap (λ (x : Effect). eqb (x .refusal) 0) (it-refused L t a room e) ∙ e))
+
+pub keeps-rest : (L : Layout) → KeepsRest L
+keeps-rest L t a room m =
+    decide (eqb (k L t a room) 0)
+    (λ e. rest L t a room e m)
+    (λ e. subst (RestStays t room) (sym (it-refused L t a room e)) (record { words = refl; wordCount = refl; bytes = refl; byteCount = refl }))
+
+pub stays-valid : (L : Layout) → StaysValid L
+stays-valid L t a room m v =
+    decide (eqb (k L t a room) 0) (λ e. still-valid L t a room e m) (λ e. ap (λ (x : Effect). valid L (x .table)) (it-refused L t a room e) ∙ v)

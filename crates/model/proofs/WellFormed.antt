@@ -1,0 +1,356 @@
+-- A step leaves a well-formed device well formed.
+use Prim.Native.Nat.{ℕ, suc, _^_}
+use mathlib.Core.Path.{_≡_, refl, sym, ap, _∙_, subst}
+use mathlib.Core.Bool.{true, false, not, _&&_}
+use mathlib.Core.Option.{Option, none, some}
+use mathlib.Core.List.{List, [], _∷_}
+use lib.ListN.{length}
+use lib.Dec.{eqb, ltb}
+use borrow.Author.Tests.{lt-ltb, eqb-true, eq-eqb, not-true, not-false}
+use Rattle.laws.specs.Tests.{within}
+use Rattle.laws.specs.Lists.{allOf, isNone}
+use Rattle.laws.proofs.Tests.{never, both, and-left, and-right}
+use Rattle.laws.proofs.Lists.{decide, cond-elim, eqb-sym}
+use Rattle.field.specs.Field.{field}
+use Rattle.model.specs.Numbers.{streamPlaces, queueSlots, firstCoded, lastCoded, headerBytes}
+use Rattle.model.specs.Device.{QueueType, input, output, State, created, queued, dequeued, Slot, free, resource, Queue, Stream, vacant, occupied, Device, newQueue, newStream, fresh, queueOf, withQueue, withDrain, withSlots, present, addResource, setState, stopped, stopAll, freeAll, recordOf, place, replace, install, put}
+use Rattle.model.specs.Frames.{LiveCommand, destroy, drain, createResource, queueResource, destroyAll, clear, getParameters, setParameters, queryControl, getControl, setControl, word, streamId, codedFormat, resourceId, timestampSent}
+use Rattle.model.specs.Replies.{Reply, Request}
+use Rattle.model.specs.Commands.{Surroundings, onCreate, onDestroy, onDrain, onCreateResource, onQueue, onDestroyAll, onClear, onGet, onSet, onLive, onCommand, drainLeft, cleared, badExtent}
+use Rattle.model.specs.Steps.{Act, command, finish, drained, streamOf, serve, Outcome, around}
+use Rattle.model.specs.WellFormed.{u8, u32, u64, goodState, goodSlot, distinctSlots, goodSlots, goodQueue, goodDrain, goodStream, goodPlace, distinctPlaces, wellFormed, goodAct}
+use Rattle.model.specs.Promises.{StaysWellFormed}
+use Rattle.field.proofs.Laws.{field-below}
+use Rattle.model.proofs.Slots.{Distinct, distinct-set, distinct-stop, distinct-free, distinct-add}
+use Rattle.model.proofs.Walk.{walk, walk-queue}
+use Rattle.model.proofs.Cases.{named, command-cases, finish-cases, drained-cases, step-cases}
+use Rattle.model.proofs.Places.{replace-other, replace-absent, install-other, all-record, all-put}
+
+-- Numbers in frames
+
+pub word-u32 : (f : List ℕ) (at : ℕ) → allOf u8 f ≡ true → u32 (word f at) ≡ true
+unfolding u8 u32
+word-u32 f at h = lt-ltb (word f at) (2 ^ 32) (field-below 4 f at h)
+
+pub field-u64 : (f : List ℕ) (at : ℕ) → allOf u8 f ≡ true → u64 (field 8 f at) ≡ true
+unfolding u8 u64
+field-u64 f at h = lt-ltb (field 8 f at) (2 ^ 64) (field-below 8 f at h)
+
+-- Slots
+
+pub distinct-of : (s : List Slot) → distinctSlots s ≡ true → Distinct s
+distinct-of [] h = tt
+distinct-of (free ∷ s) h = distinct-of s h
+distinct-of (resource m p ∷ s) h = (not-true _ (and-left (not (present m s)) _ h), distinct-of s (and-right (not (present m s)) _ h))
+
+pub of-distinct : (s : List Slot) → Distinct s → distinctSlots s ≡ true
+of-distinct [] d = refl
+of-distinct (free ∷ s) d = of-distinct s d
+of-distinct (resource m p ∷ s) d = both (ap not (d .0)) (of-distinct s (d .1))
+
+pub record GoodSlots (s : List Slot) : Type 0 where
+  pub size : length s ≡ queueSlots
+  pub each : allOf goodSlot s ≡ true
+  pub apart : Distinct s
+
+slots-are : (s : List Slot) → goodSlots s ≡ true → GoodSlots s
+slots-are s h =
+    let r = and-right (eqb (length s) queueSlots) _ h in
+    record {
+      size = eqb-true _ _ (and-left (eqb (length s) queueSlots) _ h);
+      each = and-left (allOf goodSlot s) _ r;
+      apart = distinct-of s (and-right (allOf goodSlot s) _ r);
+    }
+
+are-slots : (s : List Slot) → GoodSlots s → goodSlots s ≡ true
+are-slots s g = both (eq-eqb (length s) queueSlots (g .size)) (both (g .each) (of-distinct s (g .apart)))
+
+length-set : (r : ℕ) (p : State) (s : List Slot) → length (setState r p s) ≡ length s
+length-set r p [] = refl
+length-set r p (free ∷ s) = ap suc (length-set r p s)
+length-set r p (resource m q ∷ s) = ap suc (length-set r p s)
+
+each-set : (r : ℕ) (p : State) (s : List Slot) → goodState p ≡ true → allOf goodSlot s ≡ true → allOf goodSlot (setState r p s) ≡ true
+each-set r p [] g h = refl
+each-set r p (free ∷ s) g h = each-set r p s g h
+each-set r p (resource m q ∷ s) g h =
+    let old = and-left (u32 m && goodState q) _ h in
+    both (both (and-left (u32 m) _ old) (cond-elim (λ x. goodState x ≡ true) (eqb m r) (λ _. g) (λ _. and-right (u32 m) _ old)))
+    (each-set r p s g (and-right (u32 m && goodState q) _ h))
+
+slots-set : (r : ℕ) (p : State) (s : List Slot) → goodState p ≡ true → GoodSlots s → GoodSlots (setState r p s)
+slots-set r p s h g = record { size = length-set r p s ∙ g .size; each = each-set r p s h (g .each); apart = distinct-set r p s (g .apart) }
+
+length-stop : (s : List Slot) → length (stopAll s) ≡ length s
+length-stop [] = refl
+length-stop (free ∷ s) = ap suc (length-stop s)
+length-stop (resource m q ∷ s) = ap suc (length-stop s)
+
+stopped-good : (q : State) → goodState (stopped q) ≡ true
+stopped-good created = refl
+stopped-good (queued t ts) = refl
+stopped-good dequeued = refl
+
+each-stop : (s : List Slot) → allOf goodSlot s ≡ true → allOf goodSlot (stopAll s) ≡ true
+each-stop [] h = refl
+each-stop (free ∷ s) h = each-stop s h
+each-stop (resource m q ∷ s) h =
+    both (both (and-left (u32 m) _ (and-left (u32 m && goodState q) _ h)) (stopped-good q)) (each-stop s (and-right (u32 m && goodState q) _ h))
+
+slots-stop : (s : List Slot) → GoodSlots s → GoodSlots (stopAll s)
+slots-stop s g = record { size = length-stop s ∙ g .size; each = each-stop s (g .each); apart = distinct-stop s (g .apart) }
+
+length-free : (s : List Slot) → length (freeAll s) ≡ length s
+length-free [] = refl
+length-free (p ∷ s) = ap suc (length-free s)
+
+each-free : (s : List Slot) → allOf goodSlot (freeAll s) ≡ true
+each-free [] = refl
+each-free (p ∷ s) = each-free s
+
+slots-free : (s : List Slot) → GoodSlots s → GoodSlots (freeAll s)
+slots-free s g = record { size = length-free s ∙ g .size; each = each-free s; apart = distinct-free s }
+
+length-add : (r : ℕ) (s : List Slot) → length (addResource r s) ≡ length s
+length-add r [] = refl
+length-add r (free ∷ s) = refl
+length-add r (resource m q ∷ s) = ap suc (length-add r s)
+
+each-add : (r : ℕ) (s : List Slot) → u32 r ≡ true → allOf goodSlot s ≡ true → allOf goodSlot (addResource r s) ≡ true
+each-add r [] g h = refl
+each-add r (free ∷ s) g h = both (both g refl) h
+each-add r (resource m q ∷ s) g h = both (and-left (u32 m && goodState q) _ h) (each-add r s g (and-right (u32 m && goodState q) _ h))
+
+slots-add : (r : ℕ) (s : List Slot) → u32 r ≡ true → present r s ≡ false → GoodSlots s → GoodSlots (addResource r s)
+slots-add r s h a g = record { size = length-add r s ∙ g .size; each = each-add r s h (g .each); apart = distinct-add r s (g .apart) a }
+
+-- Queues and records
+
+pub record GoodQueue (q : Queue) : Type 0 where
+  pub slots : GoodSlots (q .slots)
+  pub width : badExtent (q .width) ≡ false
+  pub height : badExtent (q .height) ≡ false
+  pub rate : u32 (q .rate) ≡ true
+
+pub record GoodStream (b : Stream) : Type 0 where
+  pub format : within (b .format) firstCoded lastCoded ≡ true
+  pub draining : goodDrain (b .draining) ≡ true
+  pub inputs : GoodQueue (b .inputs)
+  pub outputs : GoodQueue (b .outputs)
+
+abbrev pub GoodSelf : Option Stream → Type 0
+GoodSelf none = Unit {0}
+GoodSelf (some b) = GoodStream b
+
+queue-is : (q : Queue) → goodQueue q ≡ true → GoodQueue q
+queue-is q h =
+    let w = not (badExtent (q .width)) in
+    let v = not (badExtent (q .height)) in
+    let r₁ = and-right (goodSlots (q .slots)) _ h in
+    let r₂ = and-right w _ r₁ in
+    record {
+      slots = slots-are (q .slots) (and-left (goodSlots (q .slots)) _ h);
+      width = not-true (badExtent (q .width)) (and-left w _ r₁);
+      height = not-true (badExtent (q .height)) (and-left v _ r₂);
+      rate = and-right v _ r₂;
+    }
+
+is-queue : (q : Queue) → GoodQueue q → goodQueue q ≡ true
+is-queue q g = both (are-slots (q .slots) (g .slots)) (both (ap not (g .width)) (both (ap not (g .height)) (g .rate)))
+
+stream-is : (b : Stream) → goodStream b ≡ true → GoodStream b
+stream-is b h =
+    let r₁ = and-right (within (b .format) firstCoded lastCoded) _ h in
+    let r₂ = and-right (goodDrain (b .draining)) _ r₁ in
+    record {
+      format = and-left (within (b .format) firstCoded lastCoded) _ h;
+      draining = and-left (goodDrain (b .draining)) _ r₁;
+      inputs = queue-is (b .inputs) (and-left (goodQueue (b .inputs)) _ r₂);
+      outputs = queue-is (b .outputs) (and-right (goodQueue (b .inputs)) _ r₂);
+    }
+
+is-stream : (b : Stream) → GoodStream b → goodStream b ≡ true
+is-stream b g = both (g .format) (both (g .draining) (both (is-queue (b .inputs) (g .inputs)) (is-queue (b .outputs) (g .outputs))))
+
+pub good-queue-of : (q : QueueType) (b : Stream) → GoodStream b → GoodQueue (queueOf q b)
+good-queue-of input b g = g .inputs
+good-queue-of output b g = g .outputs
+
+good-with : (t : QueueType) (q : Queue) (b : Stream) → GoodStream b → GoodQueue q → GoodStream (withQueue t q b)
+good-with input q b g h = record { format = g .format; draining = g .draining; inputs = h; outputs = g .outputs }
+good-with output q b g h = record { format = g .format; draining = g .draining; inputs = g .inputs; outputs = h }
+
+good-slots : (t : QueueType) (s : List Slot) (b : Stream) → GoodStream b → GoodSlots s → GoodStream (withQueue t (withSlots s (queueOf t b)) b)
+good-slots t s b g h =
+    let o = good-queue-of t b g in
+    good-with t _ b g (record { slots = h; width = o .width; height = o .height; rate = o .rate })
+
+good-drain : (d : Option ℕ) (b : Stream) → GoodStream b → goodDrain d ≡ true → GoodStream (withDrain d b)
+good-drain d b g h = record { format = g .format; draining = h; inputs = g .inputs; outputs = g .outputs }
+
+good-clear : (t : QueueType) (b : Stream) → GoodStream b → GoodStream (withQueue t (cleared (queueOf t b)) (withDrain (drainLeft t b) b))
+good-clear t b g =
+    let o = good-queue-of t b g in
+    good-with t _ _ (good-drain (drainLeft t b) b g (left-good t))
+    (record { slots = slots-stop (queueOf t b .slots) (o .slots); width = o .width; height = o .height; rate = o .rate })
+  where
+    left-good : (x : QueueType) → goodDrain (drainLeft x b) ≡ true
+    left-good input = refl
+    left-good output = g .draining
+
+good-new : (v : ℕ) → within v firstCoded lastCoded ≡ true → GoodStream (newStream v)
+unfolding u32 within
+good-new v h = record { format = h; draining = refl; inputs = q; outputs = q }
+  where
+    q : GoodQueue newQueue
+    q = record { slots = record { size = refl; each = refl; apart = tt }; width = refl; height = refl; rate = refl }
+
+-- Steps of one stream
+
+abbrev GoodNext : Reply → Type 0
+GoodNext v = GoodSelf (v .next)
+
+module _ (c : Request) (b : Stream) (self : c .self ≡ some b) (g : GoodStream b) (t : u32 (c .ticket) ≡ true) (m : allOf u8 (c .frame) ≡ true) where
+  same : GoodSelf (c .self)
+  same = subst GoodSelf (sym self) g
+
+  live-good : (k : LiveCommand) → GoodNext (onLive k c b)
+  unfolding onDestroy onDrain onCreateResource onQueue onDestroyAll onClear onGet onSet
+  live-good destroy = tt
+  live-good drain = walk GoodNext c _ (λ e. same) (λ h. good-drain (some (c .ticket)) b g t)
+  live-good createResource =
+      let r = resourceId (c .frame) in
+      walk-queue GoodNext c (named c) _ (λ e. same) (λ q e h₁ h₂ h₃ h₄ h₅ h₆ h₇.
+      good-slots q _ b g (slots-add r (queueOf q b .slots) (word-u32 (c .frame) 12 m) h₆ ((good-queue-of q b g) .slots)))
+  live-good queueResource =
+      walk-queue GoodNext c (named c) _ (λ e. same) (λ q e h₁ h₂ h₃ h₄ h₅.
+      good-slots q _ b g (slots-set (resourceId (c .frame)) (queued (c .ticket) (timestampSent (c .frame))) (queueOf q b .slots)
+      (both t (field-u64 (c .frame) 16 m)) ((good-queue-of q b g) .slots)))
+  live-good destroyAll =
+      walk-queue GoodNext c (named c) _ (λ e. same) (λ q e h.
+      good-slots q _ b g (slots-free (queueOf q b .slots) ((good-queue-of q b g) .slots)))
+  live-good clear = walk-queue GoodNext c (named c) _ (λ e. same) (λ q e. good-clear q b g)
+  live-good getParameters = walk-queue GoodNext c (named c) _ (λ e. same) (λ q e. same)
+  live-good setParameters =
+      walk-queue GoodNext c (named c) _ (λ e. same) (λ q e h₁ h₂ h₃ h₄.
+      good-with q _ b g (record { slots = (good-queue-of q b g) .slots; width = h₂; height = h₃; rate = word-u32 (c .frame) 48 m }))
+  live-good queryControl = same
+  live-good getControl = same
+  live-good setControl = same
+
+command-good : (around : Surroundings) (c : Request) → GoodSelf (c .self) → u32 (c .ticket) ≡ true → allOf u8 (c .frame) ≡ true → GoodNext (onCommand around c)
+unfolding onCreate
+command-good around c g t m =
+    command-cases GoodNext around c (λ e. g)
+    (λ e. walk GoodNext c _ (λ x. g) (λ h₁ h₂ h₃ h₄ h₅. good-new (codedFormat (c .frame)) (not-false _ h₃)))
+    (λ k b e. live-good c b e (subst GoodSelf e g) t m k)
+
+pub serve-good : (around : Surroundings) (n : ℕ) (self : Option Stream) (a : Act) → GoodSelf self → goodAct a ≡ true → GoodSelf (serve around n self a .next)
+unfolding serve
+serve-good around n self (command t f) g m =
+    command-good around (record { stream = n; ticket = t; frame = f; self = self }) g (and-left (u32 t) _ m) (and-right (u32 t) _ m)
+serve-good around n self (finish k qt r flags ts) g m =
+    finish-cases GoodNext n qt r flags ts self g g
+    (λ q b i e f. let h : GoodStream b = subst GoodSelf e g in
+    good-slots q _ b h (slots-set r dequeued (queueOf q b .slots) refl ((good-queue-of q b h) .slots)))
+serve-good around n self (drained k) g m =
+    drained-cases GoodNext n self g (λ b t e f. good-drain none b (subst GoodSelf e g) refl)
+
+-- Places
+
+record GoodDevice (d : Device) : Type 0 where
+  size : length d ≡ streamPlaces
+  each : allOf goodPlace d ≡ true
+  apart : distinctPlaces d ≡ true
+
+device-is : (d : Device) → wellFormed d ≡ true → GoodDevice d
+unfolding wellFormed
+device-is d h =
+    let r = and-right (eqb (length d) streamPlaces) _ h in
+    record {
+      size = eqb-true _ _ (and-left (eqb (length d) streamPlaces) _ h);
+      each = and-left (allOf goodPlace d) _ r;
+      apart = and-right (allOf goodPlace d) _ r;
+    }
+
+is-device : (d : Device) → GoodDevice d → wellFormed d ≡ true
+unfolding wellFormed
+is-device d g = both (eq-eqb (length d) streamPlaces (g .size)) (both (g .each) (g .apart))
+
+pub well-apart : (d : Device) → wellFormed d ≡ true → distinctPlaces d ≡ true
+well-apart d h = (device-is d h) .apart
+
+self-is : (n : ℕ) (r : Option Stream) → goodPlace (place n r) ≡ true → GoodSelf r
+self-is n none h = tt
+self-is n (some b) h = stream-is b (and-right (u32 n) _ h)
+
+is-self : (n : ℕ) (r : Option Stream) → u32 n ≡ true → GoodSelf r → goodPlace (place n r) ≡ true
+is-self n none u g = refl
+is-self n (some b) u g = both u (is-stream b g)
+
+pub well-record : (n : ℕ) (d : Device) → wellFormed d ≡ true → GoodSelf (recordOf n d)
+well-record n d h = self-is n (recordOf n d) (all-record goodPlace n refl d ((device-is d h) .each))
+
+module _ (n : ℕ) (r : Option Stream) where
+  length-replace : (d : Device) → length (replace n r d) ≡ length d
+  length-replace [] = refl
+  length-replace (vacant ∷ d) = ap suc (length-replace d)
+  length-replace (occupied m b ∷ d) = ap suc (length-replace d)
+
+  length-install : (d : Device) → length (install n r d) ≡ length d
+  length-install [] = refl
+  length-install (vacant ∷ d) = refl
+  length-install (occupied m b ∷ d) = ap suc (length-install d)
+
+  length-put : (d : Device) → length (put n r d) ≡ length d
+  unfolding put
+  length-put d = cond-elim (λ (x : Device). length x ≡ length d) (isNone (recordOf n d)) (λ _. length-install d) (λ _. length-replace d)
+
+apart-replace : (n : ℕ) (r : Option Stream) (d : Device) → distinctPlaces d ≡ true → distinctPlaces (replace n r d) ≡ true
+apart-replace n r [] h = refl
+apart-replace n r (vacant ∷ d) h = apart-replace n r d h
+apart-replace n r (occupied m b ∷ d) h =
+    let here = and-left (isNone (recordOf m d)) _ h in
+    let rest = and-right (isNone (recordOf m d)) _ h in
+    decide (eqb m n)
+    (λ e. simp e (taken r (subst (λ (x : ℕ). isNone (recordOf x d) ≡ true) (eqb-true m n e) here) rest))
+    (λ e. simp e (both (ap isNone (replace-other m n r d (eqb-sym m n e)) ∙ here) (apart-replace n r d rest)))
+  where
+    taken : (x : Option Stream) → isNone (recordOf n d) ≡ true → distinctPlaces d ≡ true → distinctPlaces (place n x ∷ replace n r d) ≡ true
+    taken none q z = simp (replace-absent n r d q) z
+    taken (some c) q z = simp (replace-absent n r d q) (both q z)
+
+apart-install : (n : ℕ) (r : Option Stream) (d : Device) → isNone (recordOf n d) ≡ true → distinctPlaces d ≡ true → distinctPlaces (install n r d) ≡ true
+apart-install n r [] q h = refl
+apart-install n none (vacant ∷ d) q h = h
+apart-install n (some c) (vacant ∷ d) q h = both q h
+apart-install n r (occupied m b ∷ d) q h =
+    decide (eqb m n) (λ e. never (sym (simp e at q)))
+    (λ e. both (ap isNone (install-other m n r d (eqb-sym m n e)) ∙ and-left (isNone (recordOf m d)) _ h)
+    (apart-install n r d (simp e at q) (and-right (isNone (recordOf m d)) _ h)))
+
+apart-put : (n : ℕ) (r : Option Stream) (d : Device) → distinctPlaces d ≡ true → distinctPlaces (put n r d) ≡ true
+unfolding put
+apart-put n r d h = cond-elim (λ x. distinctPlaces x ≡ true) (isNone (recordOf n d)) (λ e. apart-install n r d e h) (λ _. apart-replace n r d h)
+
+put-good : (n : ℕ) (r : Option Stream) (d : Device) → u32 n ≡ true → GoodSelf r → GoodDevice d → GoodDevice (put n r d)
+put-good n r d u g h =
+    record { size = length-put n r d ∙ h .size; each = all-put goodPlace n r (is-self n r u g) d (h .each); apart = apart-put n r d (h .apart) }
+
+stream-u32 : (a : Act) (n : ℕ) → goodAct a ≡ true → streamOf a ≡ some n → u32 n ≡ true
+unfolding streamOf
+stream-u32 (command t f) n m e =
+    decide (ltb (length f) headerBytes)
+    (λ h. let z : none ≡ some n = simp h at e in cc)
+    (λ h. let z : some (streamId f) ≡ some n = simp h at e in let q : streamId f ≡ n = cc in subst (λ x. u32 x ≡ true) q (word-u32 f 4 (and-right (u32 t) _ m)))
+stream-u32 (finish k qt r flags ts) n m e = let q : k ≡ n = cc in subst (λ x. u32 x ≡ true) q (and-left (u32 k) _ m)
+stream-u32 (drained k) n m e = let q : k ≡ n = cc in subst (λ x. u32 x ≡ true) q m
+
+pub well-fresh : wellFormed fresh ≡ true
+unfolding wellFormed fresh
+well-fresh = refl
+
+pub stays-well-formed : StaysWellFormed
+stays-well-formed d s h m =
+    step-cases (λ (o : Outcome). wellFormed (o .device) ≡ true) d s (λ k. h)
+    (λ n e. is-device _ (put-good n _ d (stream-u32 (s .act) n m e) (serve-good (around d) n (recordOf n d) (s .act) (well-record n d h) m) (device-is d h)))

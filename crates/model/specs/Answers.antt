@@ -1,0 +1,69 @@
+-- Answers: what they say, their bytes, and the answers read out of bytes.
+use Prim.Native.Nat.{ℕ, zero, suc, _+_}
+use mathlib.Core.List.{List, [], _∷_, _++_}
+use lib.ListN.{length, take, drop}
+use Rattle.field.specs.Field.{littleEndian}
+use Rattle.model.specs.Device.{QueueType}
+use Rattle.model.specs.Frames.{word}
+
+-- the guest's errors
+pub data ErrorCode : Type 0 where
+  invalidOperation outOfMemory invalidStream invalidResource invalidParameter unsupportedControl : ErrorCode
+
+abbrev pub code : ErrorCode → ℕ
+code invalidOperation = 0x0300
+code outOfMemory = 0x0301
+code invalidStream = 0x0302
+code invalidResource = 0x0303
+code invalidParameter = 0x0304
+code unsupportedControl = 0x0305
+
+-- plain success; a buffer of a queue with its timestamp and flags; a drain that ended; parameters in words; an error
+pub data Response : Type 0 where
+  success : Response
+  bufferDone : QueueType → (timestamp flags : ℕ) → Response
+  drainDone : Response
+  parameters : List ℕ → Response
+  failure : ErrorCode → Response
+
+pub record Answer : Type 0 where
+  pub ticket : ℕ
+  pub stream : ℕ
+  pub response : Response
+
+-- 32-bit words, one after the other
+abbrev pub words : List ℕ → List ℕ
+words [] = []
+words (v ∷ vs) = littleEndian 4 v ++ words vs
+
+-- the bytes of a response to a stream: the type of the answer, the stream number, the rest
+unfoldable pub responseBytes : ℕ → Response → List ℕ
+responseBytes n success = words (0x0200 ∷ n ∷ [])
+responseBytes n (bufferDone q ts flags) = words (0x0200 ∷ n ∷ []) ++ (littleEndian 8 ts ++ words (flags ∷ 0 ∷ []))
+responseBytes n drainDone = words (0x0200 ∷ n ∷ [])
+responseBytes n (parameters ws) = words (0x0203 ∷ n ∷ ws)
+responseBytes n (failure e) = words (code e ∷ n ∷ [])
+
+abbrev pub response : Answer → List ℕ
+response a = responseBytes (a .stream) (a .response)
+
+-- answers as they are written: ticket, byte count, response
+abbrev pub bytesOf : List Answer → List ℕ
+bytesOf [] = []
+bytesOf (a ∷ l) = littleEndian 4 (a .ticket) ++ (littleEndian 4 (length (response a)) ++ (response a ++ bytesOf l))
+
+-- an answer as it stands in the room
+pub record Written : Type 0 where
+  pub ticket : ℕ
+  pub response : List ℕ
+
+-- at most k answers out of bytes
+unfoldable pub readFrom : ℕ → List ℕ → List Written
+readFrom zero s = []
+readFrom (suc k) [] = []
+readFrom (suc k) (b ∷ s) =
+    record { ticket = word (b ∷ s) 0; response = take (word (b ∷ s) 4) (drop 8 (b ∷ s)) } ∷ readFrom k (drop (8 + word (b ∷ s) 4) (b ∷ s))
+
+-- the answers in bytes: no more than there are bytes
+abbrev pub answersIn : List ℕ → List Written
+answersIn s = readFrom (length s) s

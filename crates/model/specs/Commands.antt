@@ -1,0 +1,206 @@
+-- What each command does to the record of its own stream: document 01, "Guest errors" and "The commands". Of the other streams a command
+-- sees only its surroundings, and only a creation looks at them. In each definition c is the request, f its frame, b the stream's record.
+use Prim.Native.Nat.{ℕ, zero, suc, _+_, _*_, _/_, _%_, _^_}
+use mathlib.Core.Bool.{Bool, true, false, cond, not, _&&_, _||_}
+use mathlib.Core.Option.{Option, none, some}
+use mathlib.Core.List.{List, [], _∷_, _++_, map}
+use lib.ListN.{length, take, drop, replicate}
+use lib.Dec.{eqb, ltb}
+use Rattle.laws.specs.Tests.{within}
+use Rattle.laws.specs.Lists.{isEmpty, isNone, toList, total}
+use Rattle.tag.specs.Tag.{goodTag, tagIn}
+use Rattle.model.specs.Numbers.{queueSlots, firstCoded, lastCoded, nv12, err}
+use Rattle.model.specs.Device.{QueueType, input, output, queued, Queue, Stream, newStream, queueOf, withQueue, withDrain, withSlots, Buffer, queuedIn, buffers, bufferOf, present, noSlot, addResource, setState, stopAll, freeAll}
+use Rattle.model.specs.Frames.{LiveCommand, destroy, drain, createResource, queueResource, destroyAll, clear, getParameters, setParameters, queryControl, getControl, setControl, Command, create, live, CommandLine, commandOf, wrongLength, queueNumber, queueNamed, commandType, inMemType, outMemType, codedFormat, queueType, resourceId, planesLayout, numPlanes, numEntries, entries, entryBytes, entryAddr, entryLength, timestampSent, numDataSizes, formatSent, frameWidth, frameHeight, frameRate}
+use Rattle.model.specs.Answers.{invalidOperation, outOfMemory, invalidStream, invalidResource, invalidParameter, unsupportedControl, success, bufferDone, drainDone, parameters, Answer}
+use Rattle.model.specs.Replies.{Reply, reply, Request, own, fail, Tests, accept, _⇒_then_, first, forQueue}
+
+-- what a creation sees of the other streams: whether every stream place holds something
+pub record Surroundings : Type 0 where
+  pub full : Bool
+
+-- plain success, and the record that is left
+abbrev pub succeed : Request → Option Stream → Tests
+succeed c next = accept (reply (own c success ∷ []) next)
+
+-- 0x0101 create
+unfoldable pub onCreate : Surroundings → Request → Reply
+onCreate around c =
+    let f = c .frame in
+    first c
+    (not (eqb (inMemType f) 0) ⇒ invalidParameter then
+    not (eqb (outMemType f) 0) ⇒ invalidParameter then
+    not (within (codedFormat f) firstCoded lastCoded) ⇒ invalidParameter then
+    not (goodTag (tagIn f)) ⇒ invalidParameter then
+    around .full ⇒ outOfMemory then
+    succeed c (some (newStream (codedFormat f))))
+
+-- the answers to buffers of stream n that a clear or a destroy stops: their own timestamp, flag ERR
+abbrev pub stoppedAnswers : ℕ → QueueType → List Buffer → List Answer
+stoppedAnswers n q = map (λ (i : Buffer). record { ticket = i .ticket; stream = n; response = bufferDone q (i .timestamp) err })
+
+-- the answer to an owed drain, if one is owed
+abbrev pub drainAnswers : ℕ → Option ℕ → List Answer
+drainAnswers n d = map (λ (t : ℕ). record { ticket = t; stream = n; response = drainDone }) (toList d)
+
+-- 0x0102 destroy: Queued inputs, outputs, an owed drain, itself; the stream is freed
+unfoldable pub onDestroy : Request → Stream → Reply
+onDestroy c b =
+    let n = c .stream in
+    reply
+    (stoppedAnswers n input (buffers input b) ++ (stoppedAnswers n output (buffers output b) ++ (drainAnswers n (b .draining) ++ own c success ∷ [])))
+    none
+
+-- 0x0103 drain
+unfoldable pub onDrain : Request → Stream → Reply
+onDrain c b =
+    first c
+    (not (isNone (b .draining)) ⇒ invalidOperation then
+    accept (reply [] (some (withDrain (some (c .ticket)) b))))
+
+-- one of the first k entries has length 0, or an address + length above 2^64
+abbrev pub badEntry : ℕ → List ℕ → Bool
+badEntry zero es = false
+badEntry (suc k) es = eqb (entryLength es) 0 || (ltb (2 ^ 64) (entryAddr es + entryLength es) || badEntry k (drop entryBytes es))
+
+-- 0x0104 resource create; `sum` is the true sum of the entry counts of the planes
+unfoldable pub onCreateResource : Request → Stream → Reply
+onCreateResource c b =
+    let f = c .frame in
+    let r = resourceId f in
+    let sum = total (take (numPlanes f) (numEntries f)) in
+    first c
+    (forQueue (queueNamed (queueType f)) λ q.
+    let s = queueOf q b .slots in
+    not (within (planesLayout f) 1 2) ⇒ invalidParameter then
+    not (within (numPlanes f) 1 8) ⇒ invalidParameter then
+    not (within sum 1 256) ⇒ invalidParameter then
+    not (eqb (length f) (88 + entryBytes * sum)) ⇒ invalidParameter then
+    badEntry sum (entries f) ⇒ invalidParameter then
+    present r s ⇒ invalidResource then
+    noSlot s ⇒ outOfMemory then
+    succeed c (some (withQueue q (withSlots (addResource r s) (queueOf q b)) b)))
+
+abbrev pub isInput : QueueType → Bool
+isInput input = true
+isInput output = false
+
+-- 0x0105 queue: no answer now, the ticket and timestamp are kept
+unfoldable pub onQueue : Request → Stream → Reply
+onQueue c b =
+    let f = c .frame in
+    let r = resourceId f in
+    first c
+    (forQueue (queueNamed (queueType f)) λ q.
+    let s = queueOf q b .slots in
+    ltb 8 (numDataSizes f) ⇒ invalidParameter then
+    isInput q && not (isNone (b .draining)) ⇒ invalidOperation then
+    queueOf q b .clearing ⇒ invalidOperation then
+    not (present r s) ⇒ invalidResource then
+    not (isNone (bufferOf r (queuedIn s))) ⇒ invalidOperation then
+    accept (reply [] (some (withQueue q (withSlots (setState r (queued (c .ticket) (timestampSent f)) s) (queueOf q b)) b))))
+
+-- 0x0106 destroy all
+unfoldable pub onDestroyAll : Request → Stream → Reply
+onDestroyAll c b =
+    first c
+    (forQueue (queueNamed (queueType (c .frame))) λ q.
+    let s = queueOf q b .slots in
+    not (isEmpty (queuedIn s)) ⇒ invalidOperation then
+    succeed c (some (withQueue q (withSlots (freeAll s) (queueOf q b)) b)))
+
+-- the drain that a clear ends: the input queue's clear ends an owed drain, the output queue's none
+abbrev pub drainEnded : QueueType → Stream → Option ℕ
+drainEnded input b = b .draining
+drainEnded output b = none
+
+abbrev pub drainLeft : QueueType → Stream → Option ℕ
+drainLeft input b = none
+drainLeft output b = b .draining
+
+-- every Queued buffer Dequeued, the clear-in-progress mark dropped
+abbrev pub cleared : Queue → Queue
+cleared q = record { width = q .width; height = q .height; rate = q .rate; clearing = false; slots = stopAll (q .slots) }
+
+-- 0x0107 clear: the queue's Queued buffers, for input an owed drain, itself
+unfoldable pub onClear : Request → Stream → Reply
+onClear c b =
+    let n = c .stream in
+    first c
+    (forQueue (queueNamed (queueType (c .frame))) λ q.
+    accept (reply
+    (stoppedAnswers n q (buffers q b) ++ (drainAnswers n (drainEnded q b) ++ own c success ∷ []))
+    (some (withQueue q (cleared (queueOf q b)) (withDrain (drainLeft q b) b)))))
+
+-- the plane count and its 8 pairs of size and stride
+abbrev pub planes : QueueType → Queue → List ℕ
+planes input q = 1 ∷ 262144 ∷ 0 ∷ replicate 14 0
+planes output q = 2 ∷ q .width * q .height ∷ q .width ∷ q .width * q .height / 2 ∷ q .width ∷ replicate 12 0
+
+-- an input queue has the stream's coded format, an output queue NV12
+abbrev pub formatOf : QueueType → Stream → ℕ
+formatOf input b = b .format
+formatOf output b = nv12
+
+-- the 28 words of parameters: queue type, format, width, height, minimum and maximum of buffers, crop, rate, planes
+unfoldable pub parameterWords : QueueType → Stream → List ℕ
+parameterWords t b =
+    let q = queueOf t b in
+    queueNumber t ∷ formatOf t b ∷ q .width ∷ q .height ∷ 1 ∷ queueSlots ∷ 0 ∷ 0 ∷ q .width ∷ q .height ∷ q .rate ∷ planes t q
+
+-- 0x0108 get
+unfoldable pub onGet : Request → Stream → Reply
+onGet c b =
+    first c
+    (forQueue (queueNamed (queueType (c .frame))) λ q.
+    accept (reply (own c (parameters (parameterWords q b)) ∷ []) (c .self)))
+
+-- a width or a height is even and from 16 to 4,096
+abbrev pub badExtent : ℕ → Bool
+badExtent v = not (within v 16 4096 && eqb (v % 2) 0)
+
+-- the queue with other parameters
+abbrev pub withParameters : ℕ → ℕ → ℕ → Queue → Queue
+withParameters w h rate q = record { width = w; height = h; rate = rate; clearing = q .clearing; slots = q .slots }
+
+-- 0x0109 set
+unfoldable pub onSet : Request → Stream → Reply
+onSet c b =
+    let f = c .frame in
+    first c
+    (forQueue (queueNamed (queueType f)) λ q.
+    not (eqb (formatSent f) (formatOf q b)) ⇒ invalidParameter then
+    badExtent (frameWidth f) ⇒ invalidParameter then
+    badExtent (frameHeight f) ⇒ invalidParameter then
+    not (isEmpty (queuedIn (queueOf q b .slots))) ⇒ invalidOperation then
+    succeed c (some (withQueue q (withParameters (frameWidth f) (frameHeight f) (frameRate f) (queueOf q b)) b)))
+
+-- a command to a live stream
+abbrev pub onLive : LiveCommand → Request → Stream → Reply
+onLive destroy c b = onDestroy c b
+onLive drain c b = onDrain c b
+onLive createResource c b = onCreateResource c b
+onLive queueResource c b = onQueue c b
+onLive destroyAll c b = onDestroyAll c b
+onLive clear c b = onClear c b
+onLive getParameters c b = onGet c b
+onLive setParameters c b = onSet c b
+onLive queryControl c b = fail c unsupportedControl
+onLive getControl c b = fail c unsupportedControl
+onLive setControl c b = fail c unsupportedControl
+
+-- The order that all commands share: the type, the length, whether the stream is live, the command's own list
+
+-- only a creation is for a number that is not live
+abbrev pub onStream : Surroundings → Request → Command → Option Stream → Reply
+onStream around c create none = onCreate around c
+onStream around c create (some b) = fail c invalidStream
+onStream around c (live k) none = fail c invalidStream
+onStream around c (live k) (some b) = onLive k c b
+
+abbrev pub onLine : Surroundings → Request → Option CommandLine → Reply
+onLine around c none = fail c invalidOperation
+onLine around c (some l) = cond (wrongLength (l .length) (length (c .frame))) (fail c invalidParameter) (onStream around c (l .command) (c .self))
+
+unfoldable pub onCommand : Surroundings → Request → Reply
+onCommand around c = onLine around c (commandOf (commandType (c .frame)))

@@ -1,0 +1,179 @@
+-- What a table stands for: eight places for the records of live streams, and in each record two queues of sixteen slots for resources.
+-- A place and an owed drain are document 01's own words; it calls a slot a place too.
+use Prim.Native.Nat.{ℕ}
+use mathlib.Core.Bool.{Bool, true, false, cond}
+use mathlib.Core.Option.{Option, none, some}
+use mathlib.Core.List.{List, [], _∷_}
+use lib.ListN.{replicate}
+use lib.Dec.{eqb}
+use Rattle.laws.specs.Lists.{isNone}
+use Rattle.laws.specs.Ascending.{ascending}
+use Rattle.model.specs.Numbers.{streamPlaces, queueSlots}
+
+pub data QueueType : Type 0 where
+  input output : QueueType
+
+-- a resource's state; while Queued it keeps its ticket and its timestamp
+pub data State : Type 0 where
+  created : State
+  queued : (ticket timestamp : ℕ) → State
+  dequeued : State
+
+pub data Slot : Type 0 where
+  free : Slot
+  resource : (number : ℕ) → State → Slot
+
+-- the parameters that are kept (the others follow from them), the clear-in-progress mark, the resources
+pub record Queue : Type 0 where
+  pub width : ℕ
+  pub height : ℕ
+  pub rate : ℕ
+  pub clearing : Bool
+  pub slots : List Slot
+
+-- the record of a live stream: coded format, the ticket of an owed drain, the two queues. Its number stands in its place.
+pub record Stream : Type 0 where
+  pub format : ℕ
+  pub draining : Option ℕ
+  pub inputs : Queue
+  pub outputs : Queue
+
+pub data Place : Type 0 where
+  vacant : Place
+  occupied : (number : ℕ) → Stream → Place
+
+abbrev pub Device : Type 0
+Device = List Place
+
+-- no stream
+unfoldable pub fresh : Device
+fresh = replicate streamPlaces vacant
+
+-- what a creation leaves: 640 by 480, rate 0, no resources, no drain
+abbrev pub newQueue : Queue
+newQueue = record { width = 640; height = 480; rate = 0; clearing = false; slots = replicate queueSlots free }
+
+abbrev pub newStream : ℕ → Stream
+newStream format = record { format = format; draining = none; inputs = newQueue; outputs = newQueue }
+
+-- A record's parts, and the record with another part
+
+abbrev pub queueOf : QueueType → Stream → Queue
+queueOf input b = b .inputs
+queueOf output b = b .outputs
+
+abbrev pub withQueue : QueueType → Queue → Stream → Stream
+withQueue input q b = record { format = b .format; draining = b .draining; inputs = q; outputs = b .outputs }
+withQueue output q b = record { format = b .format; draining = b .draining; inputs = b .inputs; outputs = q }
+
+abbrev pub withDrain : Option ℕ → Stream → Stream
+withDrain d b = record { format = b .format; draining = d; inputs = b .inputs; outputs = b .outputs }
+
+abbrev pub withSlots : List Slot → Queue → Queue
+withSlots s q = record { width = q .width; height = q .height; rate = q .rate; clearing = q .clearing; slots = s }
+
+-- The Queued buffers of a queue
+
+-- a Queued buffer: its resource number, and the ticket and timestamp of its queueing
+pub record Buffer : Type 0 where
+  pub resource : ℕ
+  pub ticket : ℕ
+  pub timestamp : ℕ
+
+abbrev pub buffer : ℕ → ℕ → ℕ → Buffer
+buffer r t ts = record { resource = r; ticket = t; timestamp = ts }
+
+-- in the order of their slots
+abbrev pub queuedIn : List Slot → List Buffer
+queuedIn [] = []
+queuedIn (free ∷ s) = queuedIn s
+queuedIn (resource r created ∷ s) = queuedIn s
+queuedIn (resource r (queued t ts) ∷ s) = buffer r t ts ∷ queuedIn s
+queuedIn (resource r dequeued ∷ s) = queuedIn s
+
+abbrev pub byResource : List Buffer → List Buffer
+byResource = ascending (λ (i : Buffer). i .resource)
+
+-- by ascending resource number
+abbrev pub buffers : QueueType → Stream → List Buffer
+buffers q b = byResource (queuedIn (queueOf q b .slots))
+
+-- the Queued buffer of a resource number
+abbrev pub bufferOf : ℕ → List Buffer → Option Buffer
+bufferOf r [] = none
+bufferOf r (i ∷ l) = cond (eqb (i .resource) r) (some i) (bufferOf r l)
+
+-- Slots
+
+-- some slot holds the resource number
+abbrev pub present : ℕ → List Slot → Bool
+present r [] = false
+present r (free ∷ s) = present r s
+present r (resource m p ∷ s) = cond (eqb m r) true (present r s)
+
+-- every slot holds something
+abbrev pub noSlot : List Slot → Bool
+noSlot [] = true
+noSlot (free ∷ s) = false
+noSlot (resource m p ∷ s) = noSlot s
+
+-- a new resource, Created, in the lowest free slot
+abbrev pub addResource : ℕ → List Slot → List Slot
+addResource r [] = []
+addResource r (free ∷ s) = resource r created ∷ s
+addResource r (resource m p ∷ s) = resource m p ∷ addResource r s
+
+-- the resource r in another state
+abbrev pub setState : ℕ → State → List Slot → List Slot
+setState r p [] = []
+setState r p (free ∷ s) = free ∷ setState r p s
+setState r p (resource m q ∷ s) = resource m (cond (eqb m r) p q) ∷ setState r p s
+
+abbrev pub stopped : State → State
+stopped created = created
+stopped (queued t ts) = dequeued
+stopped dequeued = dequeued
+
+-- every Queued buffer is Dequeued
+abbrev pub stopAll : List Slot → List Slot
+stopAll [] = []
+stopAll (free ∷ s) = free ∷ stopAll s
+stopAll (resource m p ∷ s) = resource m (stopped p) ∷ stopAll s
+
+abbrev pub freeAll : List Slot → List Slot
+freeAll [] = []
+freeAll (p ∷ s) = free ∷ freeAll s
+
+-- Places
+
+-- the record of a stream number, if it is live
+abbrev pub recordOf : ℕ → Device → Option Stream
+recordOf n [] = none
+recordOf n (vacant ∷ d) = recordOf n d
+recordOf n (occupied m b ∷ d) = cond (eqb m n) (some b) (recordOf n d)
+
+-- every place holds something
+abbrev pub noPlace : Device → Bool
+noPlace [] = true
+noPlace (vacant ∷ d) = false
+noPlace (occupied m b ∷ d) = noPlace d
+
+abbrev pub place : ℕ → Option Stream → Place
+place n none = vacant
+place n (some b) = occupied n b
+
+-- the place of a live number gets its new record, or becomes vacant
+abbrev pub replace : ℕ → Option Stream → Device → Device
+replace n r [] = []
+replace n r (vacant ∷ d) = vacant ∷ replace n r d
+replace n r (occupied m b ∷ d) = cond (eqb m n) (place n r) (occupied m b) ∷ replace n r d
+
+-- a new stream in the lowest vacant place
+abbrev pub install : ℕ → Option Stream → Device → Device
+install n r [] = []
+install n r (vacant ∷ d) = place n r ∷ d
+install n r (occupied m b ∷ d) = occupied m b ∷ install n r d
+
+-- the record of n put back after a step of n
+unfoldable pub put : ℕ → Option Stream → Device → Device
+put n r d = cond (isNone (recordOf n d)) (install n r d) (replace n r d)

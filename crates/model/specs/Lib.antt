@@ -1,0 +1,14 @@
+pub mod Numbers
+pub mod Device
+pub mod Frames
+pub mod Answers
+pub mod Replies
+pub mod Commands
+pub mod Reports
+pub mod Steps
+pub mod WellFormed
+pub mod Tables
+pub mod Promises
+pub mod Ledger
+pub mod Condition3
+pub mod Cases

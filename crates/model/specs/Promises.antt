@@ -1,0 +1,91 @@
+-- What else holds of every step and of every list of steps. Each statement is proved in proofs/.
+use Prim.Native.Nat.{ℕ, _≤_}
+use mathlib.Core.Path.{_≡_}
+use mathlib.Core.Bool.{Bool, true, false, not, _&&_, _||_}
+use mathlib.Core.List.{List, [], _∷_, map}
+use lib.ListN.{length, take, drop}
+use lib.Dec.{eqb, leb}
+use Rattle.laws.specs.Lists.{allOf}
+use Rattle.model.specs.Numbers.{tableWords, answerRoom}
+use Rattle.model.specs.Device.{Place, vacant, occupied, Device, fresh}
+use Rattle.model.specs.Frames.{streamId}
+use Rattle.model.specs.Answers.{ErrorCode, code, Answer, response, words, bytesOf, Written, answersIn}
+use Rattle.model.specs.Steps.{Act, command, finish, drained, Step, step, Entry, final, accepted}
+use Rattle.model.specs.WellFormed.{wellFormed, goodAct, goodSteps}
+use Rattle.model.specs.Tables.{Layout, Effect, untouched, valid, effect, freshen, tableEntry, tableLog}
+
+-- Over devices
+
+-- a step leaves a well-formed device well formed
+abbrev pub StaysWellFormed : Type 0
+StaysWellFormed = (d : Device) (s : Step) → wellFormed d ≡ true → goodAct (s .act) ≡ true → wellFormed (step d s .device) ≡ true
+
+-- a step writes no more than the room that it must be lent
+abbrev pub FitsRoom : Type 0
+FitsRoom = (d : Device) (s : Step) → wellFormed d ≡ true → length (bytesOf (step d s .answers)) ≤ answerRoom
+
+-- no reached device carries a clear-in-progress mark
+abbrev pub unmarked : Place → Bool
+unmarked vacant = true
+unmarked (occupied n b) = not (b .inputs .clearing) && not (b .outputs .clearing)
+
+abbrev pub NoMark : Type 0
+NoMark = (ss : List Step) → allOf unmarked (final fresh ss) ≡ true
+
+-- the bytes of a step's answers can be read back into answers
+abbrev pub written : Answer → Written
+written a = record { ticket = a .ticket; response = response a }
+
+abbrev pub ReadBack : Type 0
+ReadBack = (d : Device) (s : Step) → wellFormed d ≡ true → goodAct (s .act) ≡ true → answersIn (bytesOf (step d s .answers)) ≡ map written (step d s .answers)
+
+-- Over tables, of any words and any room
+
+-- a refusal writes nothing and changes nothing
+abbrev pub RefusalChangesNothing : Layout → Type 0
+RefusalChangesNothing L =
+    (t : List ℕ) (a : Act) (room : List ℕ) → eqb (effect L t a room .refusal) 0 ≡ false → effect L t a room ≡ untouched (effect L t a room .refusal) t room
+
+-- a step with result 0 that is not accepted is a command; it writes exactly one error answer, under its own ticket and with the stream number sent
+pub record OneError (t : List ℕ) (a : Act) (e : Effect) : Type 0 where
+  pub ticket : ℕ
+  pub frame : List ℕ
+  pub error : ErrorCode
+  pub asked : a ≡ command ticket frame
+  pub answer : take (e .written) (e .room) ≡ words (ticket ∷ 8 ∷ code error ∷ streamId frame ∷ [])
+  pub stays : e .table ≡ t
+
+abbrev pub ErrorChangesNothing : Layout → Type 0
+ErrorChangesNothing L =
+    (t : List ℕ) (s : Step) → goodAct (s .act) ≡ true → effect L t (s .act) (s .room) .refusal ≡ 0
+    → accepted (tableEntry L s (effect L t (s .act) (s .room))) ≡ false → OneError t (s .act) (effect L t (s .act) (s .room))
+
+-- words behind the used ones and bytes behind those written stay, and so do the lengths
+pub record RestStays (t room : List ℕ) (e : Effect) : Type 0 where
+  pub words : drop tableWords (e .table) ≡ drop tableWords t
+  pub wordCount : length (e .table) ≡ length t
+  pub bytes : drop (e .written) (e .room) ≡ drop (e .written) room
+  pub byteCount : length (e .room) ≡ length room
+
+abbrev pub KeepsRest : Layout → Type 0
+KeepsRest L = (t : List ℕ) (a : Act) (room : List ℕ) → goodAct a ≡ true → RestStays t room (effect L t a room)
+
+-- a valid table stays valid
+abbrev pub StaysValid : Layout → Type 0
+StaysValid L = (t : List ℕ) (a : Act) (room : List ℕ) → goodAct a ≡ true → valid L t ≡ true → valid L (effect L t a room .table) ≡ true
+
+-- the refusal numbers of each kind of step
+abbrev pub listed : Act → ℕ → Bool
+listed (command t f) k = leb k 4
+listed (finish n qt r flags ts) k = leb k 3 || eqb k 5 || eqb k 6
+listed (drained n) k = leb k 3 || eqb k 5
+
+abbrev pub OnlyListed : Layout → Type 0
+OnlyListed L = (t : List ℕ) (a : Act) (room : List ℕ) → listed a (effect L t a room .refusal) ≡ true
+
+-- no step of a list from a fresh table is refused for its table
+abbrev pub tableGood : Entry → Bool
+tableGood e = not (eqb (e .refusal) 1) && not (eqb (e .refusal) 2)
+
+abbrev pub NoTableRefusal : Layout → Type 0
+NoTableRefusal L = (t : List ℕ) (ss : List Step) → tableWords ≤ length t → goodSteps ss ≡ true → allOf tableGood (tableLog L (freshen L t .table) ss) ≡ true

@@ -1,0 +1,52 @@
+-- What a step of one stream gives, and tests in order of which the first hit answers.
+use Prim.Native.Nat.{ℕ}
+use mathlib.Core.Bool.{Bool, cond}
+use mathlib.Core.Option.{Option, none, some}
+use mathlib.Core.List.{List, [], _∷_}
+use Rattle.model.specs.Device.{QueueType, Stream}
+use Rattle.model.specs.Answers.{ErrorCode, invalidParameter, Response, failure, Answer}
+
+infixr 5 _⇒_then_
+-- a refusal number or 0, the answers, and the record that the stream is left with
+pub record Reply : Type 0 where
+  pub refusal : ℕ
+  pub answers : List Answer
+  pub next : Option Stream
+
+-- refused by the host's table of numbers: no answer, the record stays
+abbrev pub refuse : ℕ → Option Stream → Reply
+refuse k self = record { refusal = k; answers = []; next = self }
+
+abbrev pub reply : List Answer → Option Stream → Reply
+reply l next = record { refusal = 0; answers = l; next = next }
+
+-- what a command is told: the stream number in it, its ticket, its frame, and the stream's record
+pub record Request : Type 0 where
+  pub stream : ℕ
+  pub ticket : ℕ
+  pub frame : List ℕ
+  pub self : Option Stream
+
+-- the command's own answer
+abbrev pub own : Request → Response → Answer
+own c r = record { ticket = c .ticket; stream = c .stream; response = r }
+
+-- an error answer: the record stays
+abbrev pub fail : Request → ErrorCode → Reply
+fail c e = reply (own c (failure e) ∷ []) (c .self)
+
+-- tests in order: the first that hits answers its error
+pub data Tests : Type 0 where
+  accept : Reply → Tests
+  reject : ErrorCode → Tests
+  _⇒_then_ : Bool → ErrorCode → Tests → Tests
+
+unfoldable pub first : Request → Tests → Reply
+first c (accept v) = v
+first c (reject e) = fail c e
+first c (hit ⇒ e then ts) = cond hit (fail c e) (first c ts)
+
+-- a bad queue type is an invalid parameter
+abbrev pub forQueue : Option QueueType → (QueueType → Tests) → Tests
+forQueue none ts = reject invalidParameter
+forQueue (some q) ts = ts q

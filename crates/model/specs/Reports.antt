@@ -1,0 +1,55 @@
+-- What the back end's reports do to the record of their stream n: document 01, "Host refusals" 5 and 6, and the lifecycle.
+use Prim.Native.Nat.{ℕ, _+_}
+use mathlib.Core.Bool.{Bool, cond, _&&_, _||_}
+use mathlib.Core.Option.{Option, none, some}
+use mathlib.Core.List.{[], _∷_}
+use lib.Dec.{ltb, leb}
+use Rattle.laws.specs.Lists.{isEmpty, isNone}
+use Rattle.model.specs.Numbers.{err, eos}
+use Rattle.model.specs.Device.{QueueType, input, output, dequeued, Stream, queueOf, withQueue, withDrain, withSlots, Buffer, queuedIn, bufferOf, setState}
+use Rattle.model.specs.Frames.{queueNamed}
+use Rattle.model.specs.Answers.{bufferDone, drainDone}
+use Rattle.model.specs.Replies.{Reply, refuse, reply}
+use Rattle.model.specs.Commands.{isInput}
+
+-- a buffer's timestamp in its answer: an input's own, an output's the report's
+abbrev pub timestampOf : QueueType → Buffer → ℕ → ℕ
+timestampOf input i ts = i .timestamp
+timestampOf output i ts = ts
+
+-- EOS on an input, or with no drain owed. Flags above ERR + EOS are refused before.
+abbrev pub badEos : ℕ → QueueType → Stream → Bool
+badEos flags q b = leb eos flags && (isInput q || isNone (b .draining))
+
+-- a finish of the buffer that the report names, if there is one now Queued
+abbrev pub finishBuffer : ℕ → ℕ → ℕ → ℕ → Stream → QueueType → Option Buffer → Reply
+finishBuffer n r flags ts b q none = refuse 5 (some b)
+finishBuffer n r flags ts b q (some i) =
+    cond (badEos flags q b) (refuse 6 (some b))
+    (reply (record { ticket = i .ticket; stream = n; response = bufferDone q (timestampOf q i ts) flags } ∷ [])
+    (some (withQueue q (withSlots (setState r dequeued (queueOf q b .slots)) (queueOf q b)) b)))
+
+abbrev pub finishQueue : ℕ → ℕ → ℕ → ℕ → Stream → Option QueueType → Reply
+finishQueue n r flags ts b none = refuse 5 (some b)
+finishQueue n r flags ts b (some q) = finishBuffer n r flags ts b q (bufferOf r (queuedIn (queueOf q b .slots)))
+
+abbrev pub finishStream : ℕ → ℕ → ℕ → ℕ → ℕ → Option Stream → Reply
+finishStream n qt r flags ts none = refuse 5 none
+finishStream n qt r flags ts (some b) = finishQueue n r flags ts b (queueNamed qt)
+
+-- finish: queue type, resource, flags, timestamp
+unfoldable pub onFinish : ℕ → ℕ → ℕ → ℕ → ℕ → Option Stream → Reply
+onFinish n qt r flags ts self = cond (ltb (err + eos) flags) (refuse 6 self) (finishStream n qt r flags ts self)
+
+-- an owed drain is answered where no input is Queued
+abbrev pub endDrain : ℕ → Stream → Option ℕ → Reply
+endDrain n b none = refuse 5 (some b)
+endDrain n b (some t) =
+    cond (isEmpty (queuedIn (b .inputs .slots)))
+    (reply (record { ticket = t; stream = n; response = drainDone } ∷ []) (some (withDrain none b)))
+    (refuse 5 (some b))
+
+-- drained
+unfoldable pub onDrained : ℕ → Option Stream → Reply
+onDrained n none = refuse 5 none
+onDrained n (some b) = endDrain n b (b .draining)

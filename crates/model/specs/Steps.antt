@@ -1,0 +1,125 @@
+-- Steps on a device, lists of steps, and what the host sees of them. A step, its ticket and its result are document 01's words.
+use Prim.Native.Nat.{ℕ}
+use mathlib.Core.Bool.{Bool, true, false, cond, not, _&&_}
+use mathlib.Core.Option.{Option, none, some}
+use mathlib.Core.List.{List, [], _∷_}
+use lib.ListN.{length}
+use lib.Dec.{eqb, ltb}
+use Rattle.laws.specs.Tests.{within}
+use Rattle.laws.specs.Lists.{anyOf}
+use Rattle.model.specs.Numbers.{tableWords, answerRoom, headerBytes}
+use Rattle.model.specs.Device.{Stream, Device, recordOf, noPlace, put}
+use Rattle.model.specs.Frames.{word, streamId}
+use Rattle.model.specs.Answers.{Answer, bytesOf, Written, answersIn}
+use Rattle.model.specs.Replies.{Reply}
+use Rattle.model.specs.Commands.{Surroundings, onCommand}
+use Rattle.model.specs.Reports.{onFinish, onDrained}
+
+-- what a step asks, with its arguments
+pub data Act : Type 0 where
+  command : (ticket : ℕ) (frame : List ℕ) → Act
+  finish : (stream queueType resource flags timestamp : ℕ) → Act
+  drained : (stream : ℕ) → Act
+
+-- a step of a list: what it asks, and the bytes of the answer room that it is lent
+pub record Step : Type 0 where
+  pub act : Act
+  pub room : List ℕ
+
+-- the stream number in a step; a command without a whole header has none
+unfoldable pub streamOf : Act → Option ℕ
+streamOf (command t f) = cond (ltb (length f) headerBytes) none (some (streamId f))
+streamOf (finish n qt r flags ts) = some n
+streamOf (drained n) = some n
+
+-- One stream
+
+-- a step of the stream n on its own record
+unfoldable pub serve : Surroundings → ℕ → Option Stream → Act → Reply
+serve around n self (command t f) = onCommand around (record { stream = n; ticket = t; frame = f; self = self })
+serve around n self (finish m qt r flags ts) = onFinish n qt r flags ts self
+serve around n self (drained m) = onDrained n self
+
+-- The device
+
+-- a refusal number or 0, the answers, and the device that is left
+pub record Outcome : Type 0 where
+  pub refusal : ℕ
+  pub answers : List Answer
+  pub device : Device
+
+abbrev pub refused : ℕ → Device → Outcome
+refused k d = record { refusal = k; answers = []; device = d }
+
+abbrev pub around : Device → Surroundings
+around d = record { full = noPlace d }
+
+-- the stream's record is looked up, served and put back
+abbrev pub perform : Device → Act → Option ℕ → Outcome
+perform d a none = refused 4 d
+perform d a (some n) =
+    let v : Reply = serve (around d) n (recordOf n d) a in
+    record { refusal = v .refusal; answers = v .answers; device = put n (v .next) d }
+
+-- The host's first tests: 1, 3 and 2, in this order, of the table's words, the room's bytes and the table's validity; 0 if none hits
+unfoldable pub hostRefusal : ℕ → ℕ → Bool → ℕ
+hostRefusal words room valid = cond (ltb words tableWords) 1 (cond (ltb room answerRoom) 3 (cond valid 0 2))
+
+-- a step on a device whose table is there and valid
+unfoldable pub step : Device → Step → Outcome
+step d s =
+    let k = hostRefusal tableWords (length (s .room)) true in
+    cond (eqb k 0) (perform d (s .act) (streamOf (s .act))) (refused k d)
+
+-- Lists
+
+-- a step of a list with what the host gets back: its result (refusal number or 0, bytes written) and the bytes written
+pub record Entry : Type 0 where
+  pub step : Step
+  pub refusal : ℕ
+  pub written : ℕ
+  pub bytes : List ℕ
+
+abbrev pub entryOf : Step → Outcome → Entry
+entryOf s o = record { step = s; refusal = o .refusal; written = length (bytesOf (o .answers)); bytes = bytesOf (o .answers) }
+
+abbrev pub log : Device → List Step → List Entry
+log d [] = []
+log d (s ∷ ss) = entryOf s (step d s) ∷ log (step d s .device) ss
+
+abbrev pub final : Device → List Step → Device
+final d [] = d
+final d (s ∷ ss) = final (step d s .device) ss
+
+-- What an entry shows
+
+abbrev pub answersOf : Entry → List Written
+answersOf e = answersIn (e .bytes)
+
+-- an error answer: its type is one of 0x0300 to 0x0305
+abbrev pub isError : Written → Bool
+isError w = within (word (w .response) 0) 0x0300 0x0305
+
+-- accepted: the result is 0 and no error answer is written
+unfoldable pub accepted : Entry → Bool
+accepted e = eqb (e .refusal) 0 && not (anyOf isError (answersOf e))
+
+abbrev pub isOwner : ℕ → Option ℕ → Bool
+isOwner n none = false
+isOwner n (some m) = eqb m n
+
+-- a step belongs to the stream number in it
+unfoldable pub belongs : ℕ → Entry → Bool
+belongs n e = isOwner n (streamOf (e .step .act))
+
+abbrev pub isCreation : Act → Bool
+isCreation (command t f) = eqb (word f 0) 0x0101
+isCreation (finish n qt r flags ts) = false
+isCreation (drained n) = false
+
+abbrev pub saysFull : Written → Bool
+saysFull w = eqb (word (w .response) 0) 0x0301
+
+-- a creation answered 'out of memory'
+unfoldable pub outOfMemoryAt : Entry → Bool
+outOfMemoryAt e = isCreation (e .step .act) && anyOf saysFull (answersOf e)

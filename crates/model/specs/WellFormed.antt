@@ -1,0 +1,77 @@
+-- Which devices a valid table stands for, and the types of the host's numbers.
+use Prim.Native.Nat.{ℕ, _^_}
+use mathlib.Core.Bool.{Bool, true, not, _&&_}
+use mathlib.Core.Option.{Option, none, some}
+use mathlib.Core.List.{List, [], _∷_}
+use lib.ListN.{length}
+use lib.Dec.{eqb, ltb}
+use Rattle.laws.specs.Tests.{within}
+use Rattle.laws.specs.Lists.{allOf, isNone}
+use Rattle.model.specs.Numbers.{streamPlaces, queueSlots, firstCoded, lastCoded}
+use Rattle.model.specs.Device.{State, created, queued, dequeued, Slot, free, resource, Queue, Stream, Place, vacant, occupied, Device, present, recordOf}
+use Rattle.model.specs.Commands.{badExtent}
+use Rattle.model.specs.Steps.{Act, command, finish, drained, Step}
+
+-- numbers of 8, 32 and 64 bits
+unfoldable pub u8 : ℕ → Bool
+u8 v = ltb v (2 ^ 8)
+
+unfoldable pub u32 : ℕ → Bool
+u32 v = ltb v (2 ^ 32)
+
+unfoldable pub u64 : ℕ → Bool
+u64 v = ltb v (2 ^ 64)
+
+-- any ticket, timestamp and resource number of its width will do, 0 too
+abbrev pub goodState : State → Bool
+goodState created = true
+goodState (queued t ts) = u32 t && u64 ts
+goodState dequeued = true
+
+abbrev pub goodSlot : Slot → Bool
+goodSlot free = true
+goodSlot (resource r p) = u32 r && goodState p
+
+-- no resource number twice in one queue
+abbrev pub distinctSlots : List Slot → Bool
+distinctSlots [] = true
+distinctSlots (free ∷ s) = distinctSlots s
+distinctSlots (resource r p ∷ s) = not (present r s) && distinctSlots s
+
+abbrev pub goodSlots : List Slot → Bool
+goodSlots s = eqb (length s) queueSlots && (allOf goodSlot s && distinctSlots s)
+
+-- parameters such as a creation or a set leaves; the clear-in-progress mark may stand or not
+abbrev pub goodQueue : Queue → Bool
+goodQueue q = goodSlots (q .slots) && (not (badExtent (q .width)) && (not (badExtent (q .height)) && u32 (q .rate)))
+
+abbrev pub goodDrain : Option ℕ → Bool
+goodDrain none = true
+goodDrain (some t) = u32 t
+
+abbrev pub goodStream : Stream → Bool
+goodStream b = within (b .format) firstCoded lastCoded && (goodDrain (b .draining) && (goodQueue (b .inputs) && goodQueue (b .outputs)))
+
+abbrev pub goodPlace : Place → Bool
+goodPlace vacant = true
+goodPlace (occupied n b) = u32 n && goodStream b
+
+-- no stream number twice
+abbrev pub distinctPlaces : Device → Bool
+distinctPlaces [] = true
+distinctPlaces (vacant ∷ d) = distinctPlaces d
+distinctPlaces (occupied n b ∷ d) = isNone (recordOf n d) && distinctPlaces d
+
+-- places may be vacant anywhere
+unfoldable pub wellFormed : Device → Bool
+wellFormed d = eqb (length d) streamPlaces && (allOf goodPlace d && distinctPlaces d)
+
+-- The host's types: a caller cannot lend anything else
+
+abbrev pub goodAct : Act → Bool
+goodAct (command t f) = u32 t && allOf u8 f
+goodAct (finish n qt r flags ts) = u32 n && (u32 qt && (u32 r && (u32 flags && u64 ts)))
+goodAct (drained n) = u32 n
+
+abbrev pub goodSteps : List Step → Bool
+goodSteps = allOf (λ (s : Step). goodAct (s .act))
