@@ -3,5 +3,6 @@ pub mod Lists
 pub mod Ascending
 pub mod Table
 pub mod Parts
+pub mod Pieces
 pub mod Same
 pub mod Stores

@@ -1,5 +1,5 @@
 -- Lists picked by a test, tests of any or all of their elements, and counts.
-use Prim.Native.Nat.{ℕ, _+_}
+use Prim.Native.Nat.{ℕ, suc, _+_}
 use mathlib.Core.Bool.{Bool, true, false, cond, _&&_}
 use mathlib.Core.Option.{Option, none, some}
 use mathlib.Core.List.{List, [], _∷_}
@@ -42,6 +42,17 @@ module _ {A : Type 0} where
   toList (some x) = x ∷ []
 
 -- two lists of numbers are equal: as long, and with the same number at each place
+-- a place one further on
+abbrev pub later : Option ℕ → Option ℕ
+later none = none
+later (some k) = some (suc k)
+
+module _ {A : Type 0} where
+  -- the place of the first element that passes a test, counted from 0
+  abbrev pub position : (A → Bool) → List A → Option ℕ
+  position p [] = none
+  position p (x ∷ xs) = cond (p x) (some 0) (later (position p xs))
+
 unfoldable pub same : List ℕ → List ℕ → Bool
 same [] [] = true
 same [] (y ∷ ys) = false

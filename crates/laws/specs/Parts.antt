@@ -1,7 +1,7 @@
 -- A part of a list, a list with another part (in the form in which a lent part comes back), and blocks side by side.
 use Prim.Native.Nat.{ℕ, zero, suc}
 use mathlib.Core.Bool.{cond}
-use mathlib.Core.List.{List, [], _++_}
+use mathlib.Core.List.{List, [], _∷_, _++_}
 use lib.Dec.{eqb}
 use lib.ListN.{take, drop, replicate}
 
@@ -26,3 +26,14 @@ module _ {A : Type 0} where
   -- f with x at i
   abbrev pub update : (ℕ → A) → ℕ → A → ℕ → A
   update f i x j = cond (eqb j i) x (f j)
+
+module _ {A : Type 0} where
+  -- the elements written one after the other
+  unfoldable pub pieces : (A → List ℕ) → List A → List ℕ
+  pieces f [] = []
+  pieces f (x ∷ l) = f x ++ pieces f l
+
+  -- n elements read out of pieces of k, one after the other
+  unfoldable pub readPieces : (List ℕ → A) → ℕ → ℕ → List ℕ → List A
+  readPieces f k zero l = []
+  readPieces f k (suc n) l = f (take k l) ∷ readPieces f k n (drop k l)

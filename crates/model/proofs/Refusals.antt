@@ -15,7 +15,7 @@ use Rattle.model.specs.Frames.{LiveCommand, destroy, drain, createResour
 use Rattle.model.specs.Replies.{Reply, Request}
 use Rattle.model.specs.Commands.{Surroundings, onCreate, onDestroy, onDrain, onCreateResource, onQueue, onDestroyAll, onClear, onGet, onSet, onLive, onCommand}
 use Rattle.model.specs.Steps.{Act, command, finish, drained, Step, streamOf, serve, Outcome, around, perform, hostRefusal, step, entryOf, log}
-use Rattle.model.specs.Tables.{Layout, valid, effect}
+use Rattle.model.specs.Tables.{Layout, Lawful, valid, effect}
 use Rattle.model.specs.Promises.{listed, OnlyListed, tableGood, NoTableRefusal}
 use Rattle.model.proofs.Walk.{walk, walk-queue}
 use Rattle.model.proofs.Cases.{named, command-cases, finish-cases, drained-cases}
@@ -104,5 +104,5 @@ log-table : (d : Device) (ss : List Step) → allOf tableGood (log d ss) ≡ tru
 log-table d [] = refl
 log-table d (s ∷ ss) = both (step-table d s) (log-table (step d s .device) ss)
 
-pub no-table-refusal : (L : Layout) → NoTableRefusal L
-no-table-refusal L t ss h m = ap (λ r. allOf tableGood (r .entries)) (same-run L t h ss m) ∙ log-table fresh ss
+pub no-table-refusal : (L : Layout) → Lawful L → NoTableRefusal L
+no-table-refusal L law t ss h m = ap (λ r. allOf tableGood (r .entries)) (same-run L law t h ss m) ∙ log-table fresh ss

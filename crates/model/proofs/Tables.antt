@@ -17,7 +17,7 @@ use Rattle.model.specs.Device.{Device, fresh, recordOf}
 use Rattle.model.specs.Answers.{bytesOf}
 use Rattle.model.specs.Steps.{Step, streamOf, Outcome, perform, hostRefusal, step, Entry, entryOf, log, final}
 use Rattle.model.specs.WellFormed.{wellFormed, goodAct, goodSteps}
-use Rattle.model.specs.Tables.{Layout, Effect, untouched, valid, carriedOut, effect, freshen, effectOf, tableEntry, tableLog, tableFinal}
+use Rattle.model.specs.Tables.{Layout, Lawful, Effect, untouched, valid, carriedOut, effect, freshen, effectOf, tableEntry, tableLog, tableFinal}
 use Rattle.model.specs.Condition3.{Run, ownEntries, stepsOf, Condition3, onDevice, onTable, OnTables}
 use Rattle.model.proofs.WellFormed.{well-fresh, stays-well-formed}
 use Rattle.model.proofs.Condition3.{condition3}
@@ -48,22 +48,22 @@ valid-refusal words room v h e = simp (le-ltb words tableWords h, e)
 
 -- The words of a device, with any words behind them
 
-module _ (L : Layout) (rest : List ℕ) where
+module _ (L : Layout) (law : Lawful L) (rest : List ℕ) where
   abbrev pub wordsOf : Device → List ℕ
   wordsOf d = L .encode d ++ rest
 
   module _ (d : Device) (h : wellFormed d ≡ true) where
     used : take tableWords (wordsOf d) ≡ L .encode d
-    used = take-at (L .encode d) rest tableWords (L .size d h)
+    used = take-at (L .encode d) rest tableWords (law .size d h)
 
     behind : drop tableWords (wordsOf d) ≡ rest
-    behind = drop-at (L .encode d) rest tableWords (L .size d h)
+    behind = drop-at (L .encode d) rest tableWords (law .size d h)
 
     device-is : L .decode (take tableWords (wordsOf d)) ≡ d
-    device-is = ap (L .decode) used ∙ L .back d h
+    device-is = ap (L .decode) used ∙ law .back d h
 
     long : tableWords ≤ length (wordsOf d)
-    long = omega (arith, length-append (L .encode d) rest, L .size d h)
+    long = omega (arith, length-append (L .encode d) rest, law .size d h)
 
     pub words-valid : valid L (wordsOf d) ≡ true
     unfolding valid
@@ -115,27 +115,27 @@ final-well d (s ∷ ss) h m =
 -- Condition 3 over tables
 
 -- a list shows the same on a fresh table as on a fresh device
-module _ (L : Layout) (t : List ℕ) (h : tableWords ≤ length t) where
-  start : freshen L t .table ≡ wordsOf L (drop tableWords t) fresh
+module _ (L : Layout) (law : Lawful L) (t : List ℕ) (h : tableWords ≤ length t) where
+  start : freshen L t .table ≡ wordsOf L law (drop tableWords t) fresh
   unfolding freshen
   start = simp (le-ltb (length t) tableWords h)
 
   pub same-run : (ss : List Step) → goodSteps ss ≡ true → onTable L t ss ≡ onDevice ss
   same-run ss m =
       let rest = drop tableWords t in
-      let entries : tableLog L (freshen L t .table) ss ≡ log fresh ss = ap (λ (x : List ℕ). tableLog L x ss) start ∙ same-log L rest fresh ss well-fresh m in
+      let entries : tableLog L (freshen L t .table) ss ≡ log fresh ss = ap (λ (x : List ℕ). tableLog L x ss) start ∙ same-log L law rest fresh ss well-fresh m in
       let held : L .decode (take tableWords (tableFinal L (freshen L t .table) ss)) ≡ final fresh ss =
       ap (λ (x : List ℕ). L .decode (take tableWords (tableFinal L x ss))) start
-      ∙ ap (λ (x : List ℕ). L .decode (take tableWords x)) (same-final L rest fresh ss well-fresh m)
-      ∙ device-is L rest (final fresh ss) (final-well fresh ss well-fresh m) in
+      ∙ ap (λ (x : List ℕ). L .decode (take tableWords x)) (same-final L law rest fresh ss well-fresh m)
+      ∙ device-is L law rest (final fresh ss) (final-well fresh ss well-fresh m) in
       λ i. record { entries = entries i; held = λ n. recordOf n (held i) }
 
   end-valid : (ss : List Step) → goodSteps ss ≡ true → valid L (tableFinal L (freshen L t .table) ss) ≡ true
   end-valid ss m =
       let rest = drop tableWords t in
       ap (λ (x : List ℕ). valid L (tableFinal L x ss)) start
-      ∙ ap (valid L) (same-final L rest fresh ss well-fresh m)
-      ∙ words-valid L rest (final fresh ss) (final-well fresh ss well-fresh m)
+      ∙ ap (valid L) (same-final L law rest fresh ss well-fresh m)
+      ∙ words-valid L law rest (final fresh ss) (final-well fresh ss well-fresh m)
 
 -- the steps of a stream are steps in the host's types
 
@@ -161,11 +161,11 @@ other-alone run alone alone′ same c =
       destroyed = c .destroyed;
     }
 
-pub on-tables : (L : Layout) → OnTables L
-on-tables L t u ss h g m = (
-  subst (λ (r : Run). Condition3 r (onTable L u)) (sym (same-run L t h ss m))
+pub on-tables : (L : Layout) → Lawful L → OnTables L
+on-tables L law t u ss h g m = (
+  subst (λ (r : Run). Condition3 r (onTable L u)) (sym (same-run L law t h ss m))
       (other-alone (onDevice ss) (onTable L u) onDevice
-      (λ n. same-run L u g (stepsOf (ownEntries n (log fresh ss))) (good-steps (ownEntries n (log fresh ss)) (all-keep _ _ (log fresh ss) (good-log fresh ss m))))
+      (λ n. same-run L law u g (stepsOf (ownEntries n (log fresh ss))) (good-steps (ownEntries n (log fresh ss)) (all-keep _ _ (log fresh ss) (good-log fresh ss m))))
       (condition3 ss m)),
-  end-valid L t h ss m,
+  end-valid L law t h ss m,
 )

@@ -19,7 +19,7 @@ use Rattle.model.specs.Answers.{ErrorCode, failure, words, responseBytes
 use Rattle.model.specs.Replies.{Reply, refuse}
 use Rattle.model.specs.Steps.{Act, command, finish, drained, Step, streamOf, serve, Outcome, refused, around, perform, hostRefusal, step, accepted, entryOf}
 use Rattle.model.specs.WellFormed.{wellFormed, goodAct}
-use Rattle.model.specs.Tables.{Layout, Effect, untouched, valid, carriedOut, effect, tableEntry}
+use Rattle.model.specs.Tables.{Layout, Lawful, Effect, untouched, valid, carriedOut, effect, tableEntry}
 use Rattle.model.specs.Promises.{written, RefusalChangesNothing, OneError, ErrorChangesNothing, RestStays, KeepsRest, StaysValid}
 use Rattle.model.specs.Ledger.{ticketIn}
 use Rattle.model.proofs.Places.{put-self}
@@ -172,11 +172,11 @@ module _ (L : Layout) (t : List ℕ) (a : Act) (room : List ℕ) where
           bytes = take-at (bytesOf (outcome .answers)) (drop (length (bytesOf (outcome .answers))) room) (length (bytesOf (outcome .answers))) refl i;
         })
 
-    rest : goodAct a ≡ true → RestStays t room it
-    rest m =
+    rest : Lawful L → goodAct a ≡ true → RestStays t room it
+    rest law m =
         let b = bytesOf (outcome .answers) in
         let w = L .encode (outcome .device) in
-        let size : length w ≡ tableWords = L .size (outcome .device) (still-well m) in
+        let size : length w ≡ tableWords = law .size (outcome .device) (still-well m) in
         let long = lent .enough in
         let room-fits = fits in
         subst (RestStays t room) (sym carried)
@@ -187,8 +187,8 @@ module _ (L : Layout) (t : List ℕ) (a : Act) (room : List ℕ) where
           byteCount = omega (arith, length-append b (drop (length b) room), length-drop (length b) room);
         })
 
-    still-valid : goodAct a ≡ true → valid L (it .table) ≡ true
-    still-valid m = ap (λ (x : Effect). valid L (x .table)) carried ∙ words-valid L (drop tableWords t) (outcome .device) (still-well m)
+    still-valid : Lawful L → goodAct a ≡ true → valid L (it .table) ≡ true
+    still-valid law m = ap (λ (x : Effect). valid L (x .table)) carried ∙ words-valid L law (drop tableWords t) (outcome .device) (still-well m)
 
 pub refusal-changes-nothing : (L : Layout) → RefusalChangesNothing L
 refusal-changes-nothing L t a room r =
@@ -215,12 +215,12 @@ error-changes-nothing L t s m z acc =
     subst (OneError t a) (sym (carried L t a room e)) (errors L t a room e o (not-accepted d a (well L t a room e) no) refusal))
     (λ e. never (sym (ap (λ (x : ℕ). eqb x 0) z) ∙ ap (λ (x : Effect). eqb (x .refusal) 0) (it-refused L t a room e) ∙ e))
 
-pub keeps-rest : (L : Layout) → KeepsRest L
-keeps-rest L t a room m =
+pub keeps-rest : (L : Layout) → Lawful L → KeepsRest L
+keeps-rest L law t a room m =
     decide (eqb (k L t a room) 0)
-    (λ e. rest L t a room e m)
+    (λ e. rest L t a room e law m)
     (λ e. subst (RestStays t room) (sym (it-refused L t a room e)) (record { words = refl; wordCount = refl; bytes = refl; byteCount = refl }))
 
-pub stays-valid : (L : Layout) → StaysValid L
-stays-valid L t a room m v =
-    decide (eqb (k L t a room) 0) (λ e. still-valid L t a room e m) (λ e. ap (λ (x : Effect). valid L (x .table)) (it-refused L t a room e) ∙ v)
+pub stays-valid : (L : Layout) → Lawful L → StaysValid L
+stays-valid L law t a room m v =
+    decide (eqb (k L t a room) 0) (λ e. still-valid L t a room e law m) (λ e. ap (λ (x : Effect). valid L (x .table)) (it-refused L t a room e) ∙ v)

@@ -16,8 +16,11 @@ use Rattle.model.specs.WellFormed.{wellFormed}
 pub record Layout : Type 0 where
   pub encode : Device → List ℕ
   pub decode : List ℕ → Device
-  pub size : (d : Device) → wellFormed d ≡ true → length (encode d) ≡ tableWords
-  pub back : (d : Device) → wellFormed d ≡ true → decode (encode d) ≡ d
+
+-- the two laws of a layout: a well-formed device fills the used words, and is read back from them
+pub record Lawful (L : Layout) : Type 0 where
+  pub size : (d : Device) → wellFormed d ≡ true → length (L .encode d) ≡ tableWords
+  pub back : (d : Device) → wellFormed d ≡ true → L .decode (L .encode d) ≡ d
 
 -- the result (refusal number or 0, bytes written), and what stands in the lent table and in the lent room afterwards
 pub record Effect : Type 0 where
