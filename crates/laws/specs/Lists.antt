@@ -41,7 +41,6 @@ module _ {A : Type 0} where
   toList none = []
   toList (some x) = x ∷ []
 
--- two lists of numbers are equal: as long, and with the same number at each place
 -- a place one further on
 abbrev pub later : Option ℕ → Option ℕ
 later none = none
@@ -53,6 +52,7 @@ module _ {A : Type 0} where
   position p [] = none
   position p (x ∷ xs) = cond (p x) (some 0) (later (position p xs))
 
+-- two lists of numbers are equal: as long, and with the same number at each place
 unfoldable pub same : List ℕ → List ℕ → Bool
 same [] [] = true
 same [] (y ∷ ys) = false

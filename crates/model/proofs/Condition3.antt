@@ -12,16 +12,16 @@ use Rattle.laws.specs.Lists.{keep, anyOf, allOf, count, isNone}
 use Rattle.laws.proofs.Tests.{never, both, and-left, and-right}
 use Rattle.laws.proofs.Lists.{decide, eqb-refl, keep-comm, keep-append, keep-excluded, all-append, all-keep, count-append, count-split, count-map, count-kept}
 use Rattle.laws.proofs.Ascending.{ascending-count}
-use Rattle.field.specs.Field.{field}
+use Rattle.field.specs.Field.{field, littleEndian}
 use Rattle.model.specs.Device.{QueueType, input, output, Stream, Device, fresh, Buffer, queuedIn, byResource, recordOf}
 use Rattle.model.specs.Frames.{queueNumber}
-use Rattle.model.specs.Answers.{Answer, bytesOf, Written, answersIn}
+use Rattle.model.specs.Answers.{Answer, response, bytesOf, Written, rewritten, answersIn}
 use Rattle.model.specs.Replies.{Reply}
-use Rattle.model.specs.Steps.{Act, command, finish, drained, Step, streamOf, serve, Outcome, refused, around, perform, step, Entry, entryOf, log, final, answersOf, isError, accepted}
+use Rattle.model.specs.Steps.{Act, command, finish, drained, Step, streamOf, serve, Outcome, refused, around, perform, step, Entry, entryOf, entriesOf, final, answersOf, isError, accepted}
 use Rattle.model.specs.WellFormed.{wellFormed, goodAct, goodSteps}
 use Rattle.model.specs.Ledger.{Fed, fed, Awaited, toBuffer, toDrain, Pending, Ledger, streamIn, ticketIn, awaitedBy, pending, adds, isBufferOf, isDrain, resourceIn, pays, due, byNumber, awaits, inOrder, ledgerAfter, paid, ownTickets, expectedTickets, fedOf, ledgerFrom, ledgerOf, tickets, AsExpected, reached, ofStep, answersTo, Owed, owed, owedTo, owedBuffers, owedDrain, owedIn}
 use Rattle.model.specs.Promises.{written}
-use Rattle.model.specs.Condition3.{older, OnDevices}
+use Rattle.model.specs.Condition3.{older, Framed, OnDevices}
 use Rattle.model.proofs.ReadBack.{error-is, read-back}
 use Rattle.model.proofs.WellFormed.{GoodSelf, well-record, well-fresh, stays-well-formed}
 use Rattle.model.proofs.LedgerView.{View, timestampIn, viewOf, viewAt, to, buffersIn, bufferIn, ticketsIn, viewAfter, ticketsPaid, view-own, view-other, tickets-paid}
@@ -170,17 +170,32 @@ kept k d l s g m =
 abbrev good : Step → List Step → Type 0
 good s ss = (goodAct (s .act) && goodSteps ss) ≡ true
 
-as-expected : (k : ℕ) (d : Device) (l : Ledger) (ss : List Step) → Agree d l → goodSteps ss ≡ true → AsExpected k l (log d ss)
+as-expected : (k : ℕ) (d : Device) (l : Ledger) (ss : List Step) → Agree d l → goodSteps ss ≡ true → AsExpected k l (entriesOf d ss)
 as-expected k d l [] g m = tt
 as-expected k d l (s ∷ ss) g m =
     let h = kept k d l s g (and-left (goodAct (s .act)) (goodSteps ss) m) in
     (h .answers, as-expected (suc k) (step d s .device) (ledgerAfter (fedOf k (entryOf s (step d s))) l) ss (h .agree) (and-right (goodAct (s .act)) (goodSteps ss) m))
 
-agrees : (k : ℕ) (d : Device) (l : Ledger) (ss : List Step) → Agree d l → goodSteps ss ≡ true → Agree (final d ss) (ledgerFrom k l (log d ss))
+agrees : (k : ℕ) (d : Device) (l : Ledger) (ss : List Step) → Agree d l → goodSteps ss ≡ true → Agree (final d ss) (ledgerFrom k l (entriesOf d ss))
 agrees k d l [] g m = g
 agrees k d l (s ∷ ss) g m =
     agrees (suc k) (step d s .device) (ledgerAfter (fedOf k (entryOf s (step d s))) l) ss
     (kept k d l s g (and-left (goodAct (s .act)) (goodSteps ss) m) .agree) (and-right (goodAct (s .act)) (goodSteps ss) m)
+
+-- the bytes of a step are its answers
+
+rewritten-written : (l : List Answer) → rewritten (map written l) ≡ bytesOf l
+rewritten-written [] = refl
+rewritten-written (a ∷ l) = ap (λ r. littleEndian 4 (a .ticket) ++ (littleEndian 4 (length (response a)) ++ (response a ++ r))) (rewritten-written l)
+
+all-framed : (d : Device) (ss : List Step) → wellFormed d ≡ true → goodSteps ss ≡ true → Framed (entriesOf d ss)
+all-framed d [] h m = tt
+all-framed d (s ∷ ss) h m =
+    let good = and-left (goodAct (s .act)) (goodSteps ss) m in (
+      ap rewritten (read-back d s h good) ∙ rewritten-written (step d s .answers),
+      refl,
+      all-framed (step d s .device) ss (stays-well-formed d s h good) (and-right (goodAct (s .act)) (goodSteps ss) m),
+    )
 
 agree-fresh : Agree fresh []
 unfolding fresh viewOf holding
@@ -324,7 +339,7 @@ abbrev Knows : ℕ → Ledger → List Entry → Type 0
 Knows k l [] = Unit {0}
 Knows k l (e ∷ es) = (allOf (awaits known) l ≡ true) × Knows (suc k) (ledgerAfter (fedOf k e) l) es
 
-all-know : (k : ℕ) (d : Device) (l : Ledger) (ss : List Step) → Agree d l → goodSteps ss ≡ true → Knows k l (log d ss)
+all-know : (k : ℕ) (d : Device) (l : Ledger) (ss : List Step) → Agree d l → goodSteps ss ≡ true → Knows k l (entriesOf d ss)
 all-know k d l [] g m = tt
 all-know k d l (s ∷ ss) g m = (
   g .knows,
@@ -421,13 +436,14 @@ pub condition3 : OnDevices
 condition3 ss m =
     record {
       isolated = λ n. isolated n ss;
+      framed = all-framed fresh ss well-fresh m;
       answered = as-expected 0 fresh [] ss agree-fresh m;
-      owes = λ n p. agree-owes p (final fresh ss) (ledgerOf (log fresh ss)) n (agrees 0 fresh [] ss agree-fresh m);
+      owes = λ n p. agree-owes p (final fresh ss) (ledgerOf (entriesOf fresh ss)) n (agrees 0 fresh [] ss agree-fresh m);
       once = λ before later e split acc h.
           let j = length before in
           omega (
             arith,
-            balance j 0 [] (log fresh ss) (as-expected 0 fresh [] ss agree-fresh m) (all-know 0 fresh [] ss agree-fresh m),
+            balance j 0 [] (entriesOf fresh ss) (as-expected 0 fresh [] ss agree-fresh m) (all-know 0 fresh [] ss agree-fresh m),
             ap (λ (es : List Entry). count (ofStep j) (added 0 es)) split,
             added-once j 0 before later e (omega arith) acc h,
           );

@@ -15,7 +15,7 @@ use Rattle.laws.proofs.Lists.{cond-elim, eqb-refl, eqb-sym, keep-ascending, kee
 use Rattle.field.specs.Field.{field}
 use Rattle.model.specs.Device.{QueueType, input, output, queued, dequeued, Queue, Stream, newStream, queueOf, withQueue, withDrain, withSlots, Buffer, queuedIn, byResource, buffers, bufferOf, present, addResource, setState, freeAll}
 use Rattle.model.specs.Frames.{LiveCommand, destroy, drain, createResource, queueResource, destroyAll, clear, getParameters, setParameters, queryControl, getControl, setControl, create, live, CommandLine, commands, commandOf, wrongLength, queueNumber, queueNamed, codedFormat, resourceId, timestampSent}
-use Rattle.model.specs.Answers.{ErrorCode, invalidOperation, invalidStream, invalidParameter, unsupportedControl, success, bufferDone, drainDone, parameters, failure, Answer}
+use Rattle.model.specs.Answers.{ErrorCode, invalidOperation, invalidStream, invalidParameter, unsupportedControl, Response, success, bufferDone, drainDone, parameters, failure, Answer}
 use Rattle.model.specs.Replies.{Reply, refuse, reply, Request, own, fail}
 use Rattle.model.specs.Commands.{Surroundings, onCreate, stoppedAnswers, drainAnswers, onDestroy, onDrain, onCreateResource, onQueue, onDestroyAll, drainEnded, drainLeft, cleared, onClear, onGet, onSet, onLive, onStream, onLine, onCommand}
 use Rattle.model.specs.Reports.{timestampOf, badEos, finishBuffer, finishQueue, finishStream, onFinish, endDrain, onDrained}
@@ -23,7 +23,6 @@ use Rattle.model.specs.Steps.{Act, command, finish, drained, serve}
 use Rattle.model.specs.Ledger.{Awaited, toBuffer, toDrain, awaitedBy, isBufferOf, isDrain, resourceIn, pays, ticketIn, ownTickets}
 use Rattle.model.proofs.Slots.{byRes, Distinct, queued-stop, queued-free, queued-add, queued-finish, queued-only, queued-more, isRes}
 use Rattle.model.proofs.Walk.{walk, walk-queue}
-use Rattle.model.proofs.ReadBack.{isFailure}
 use Rattle.model.proofs.Lines.{Each, each-line, by-type, named-number}
 use Rattle.model.proofs.LedgerView.{View, pick, bufferTickets, ticketsOf, viewAfter, ticketsPaid}
 
@@ -37,10 +36,17 @@ unfoldable pub holding : Option Stream → View
 holding none = record { queued = λ q. []; drains = [] }
 holding (some b) = record { queued = λ q. buffers q b; drains = toList (b .draining) }
 
--- refused by no number and answered by no error
+abbrev pub isFailure : Response → Bool
+isFailure success = false
+isFailure (bufferDone q ts flags) = false
+isFailure drainDone = false
+isFailure (parameters ws) = false
+isFailure (failure e) = true
+
 abbrev pub fails : Answer → Bool
 fails a = isFailure (a .response)
 
+-- refused by no number and answered by no error
 abbrev pub acceptedReply : Reply → Bool
 acceptedReply v = eqb (v .refusal) 0 && not (anyOf fails (v .answers))
 

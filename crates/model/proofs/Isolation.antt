@@ -20,7 +20,7 @@ use Rattle.model.specs.Answers.{outOfMemory, bytesOf, responseBytes, rea
 use Rattle.model.specs.Replies.{Reply, Request, fail, first}
 use Rattle.model.specs.Commands.{Surroundings, onCreate, onStream, onLine, onCommand}
 use Rattle.model.specs.Reports.{onFinish, onDrained}
-use Rattle.model.specs.Steps.{Act, command, finish, drained, Step, streamOf, serve, Outcome, refused, around, perform, hostRefusal, step, Entry, entryOf, log, final, isOwner, belongs, isCreation, saysFull, outOfMemoryAt}
+use Rattle.model.specs.Steps.{Act, command, finish, drained, Step, streamOf, serve, Outcome, refused, around, perform, hostRefusal, step, Entry, entryOf, entriesOf, final, isOwner, ownerOf, belongs, isCreation, saysFull, outOfMemoryAt}
 use Rattle.model.specs.Condition3.{ownEntries, stepsOf}
 use Rattle.model.proofs.Places.{put-same, put-other}
 use Rattle.model.proofs.Walk.{walk}
@@ -29,7 +29,7 @@ use Rattle.model.proofs.Lines.{each-line, by-type}
 abbrev crowded : Surroundings
 crowded = record { full = true }
 
-abbrev alone : Surroundings
+abbrev pub alone : Surroundings
 alone = record { full = false }
 
 -- Where every place holds something, no step brings a stream to life
@@ -54,7 +54,7 @@ serve-next n (drained m) = refl
 
 -- A step that is not answered 'out of memory' does not depend on the surroundings
 
-abbrev tellsFull : Reply → Bool
+abbrev pub tellsFull : Reply → Bool
 tellsFull v = anyOf saysFull (answersIn (bytesOf (v .answers)))
 
 full-tells : (c : Request) → tellsFull (fail c outOfMemory) ≡ true
@@ -188,6 +188,13 @@ other-step n d s b =
     of none q = refl
     of (some m) q = other-record n m d (s .act) q
 
+-- the device serves the stream that the step belongs to
+pub serves-owner : (a : Act) → streamOf a ≡ ownerOf a
+unfolding streamOf ownerOf
+serves-owner (command t f) = refl
+serves-owner (finish n qt r flags ts) = refl
+serves-owner (drained n) = refl
+
 owner-is : (n : ℕ) (o : Option ℕ) → isOwner n o ≡ true → o ≡ some n
 owner-is n none e = never (sym e)
 owner-is n (some m) e = ap some (eqb-true m n e)
@@ -196,26 +203,26 @@ owner-is n (some m) e = ap some (eqb-true m n e)
 
 abbrev Isolated : ℕ → Device → List Step → Type 0
 Isolated n d ss =
-    anyOf outOfMemoryAt (ownEntries n (log d ss)) ≡ false
-    → (ownEntries n (log d ss) ≡ log (solo n (recordOf n d)) (stepsOf (ownEntries n (log d ss))))
-    × (recordOf n (final d ss) ≡ recordOf n (final (solo n (recordOf n d)) (stepsOf (ownEntries n (log d ss)))))
+    anyOf outOfMemoryAt (ownEntries n (entriesOf d ss)) ≡ false
+    → (ownEntries n (entriesOf d ss) ≡ entriesOf (solo n (recordOf n d)) (stepsOf (ownEntries n (entriesOf d ss))))
+    × (recordOf n (final d ss) ≡ recordOf n (final (solo n (recordOf n d)) (stepsOf (ownEntries n (entriesOf d ss)))))
 
 isolate-own : (n : ℕ) (d : Device) (s : Step) (ss : List Step) → belongs n (entryOf s (step d s)) ≡ true → Isolated n (step d s .device) ss → Isolated n d (s ∷ ss)
 unfolding belongs
 isolate-own n d s ss b ih h =
     let d′ = step d s .device in
-    let rest = ownEntries n (log d′ ss) in
+    let rest = ownEntries n (entriesOf d′ ss) in
     let h′ : anyOf outOfMemoryAt (entryOf s (step d s) ∷ rest) ≡ false = simp b at h in
     let there = ih (any-tail outOfMemoryAt (entryOf s (step d s)) rest h′) in
-    let same = same-step n d s (owner-is n (streamOf (s .act)) b) (any-head outOfMemoryAt (entryOf s (step d s)) rest h′) in
+    let same = same-step n d s (serves-owner (s .act) ∙ owner-is n (ownerOf (s .act)) b) (any-head outOfMemoryAt (entryOf s (step d s)) rest h′) in
     simp b (
-      ap₂ (λ (x : Outcome) (l : List Entry). entryOf s x ∷ l) (sym same) (there .0 ∙ ap (λ (x : Outcome). log (x .device) (stepsOf rest)) (sym same)),
+      ap₂ (λ (x : Outcome) (l : List Entry). entryOf s x ∷ l) (sym same) (there .0 ∙ ap (λ (x : Outcome). entriesOf (x .device) (stepsOf rest)) (sym same)),
       there .1 ∙ ap (λ (x : Outcome). recordOf n (final (x .device) (stepsOf rest))) (sym same),
     )
 
 isolate-other : (n : ℕ) (d : Device) (s : Step) (ss : List Step) → belongs n (entryOf s (step d s)) ≡ false → Isolated n (step d s .device) ss → Isolated n d (s ∷ ss)
 unfolding belongs
-isolate-other n d s ss b ih h = simp b (simp (other-step n d s b) at (ih (simp b at h)))
+isolate-other n d s ss b ih h = simp b (simp (other-step n d s (ap (isOwner n) (serves-owner (s .act)) ∙ b)) at (ih (simp b at h)))
 
 isolate : (n : ℕ) (d : Device) (ss : List Step) → Isolated n d ss
 isolate n d [] = λ h. (refl, sym (solo-record n (recordOf n d)))
@@ -223,8 +230,8 @@ isolate n d (s ∷ ss) =
     let later = isolate n (step d s .device) ss in
     decide (belongs n (entryOf s (step d s))) (λ b. isolate-own n d s ss b later) (λ b. isolate-other n d s ss b later)
 
-pub isolated : (n : ℕ) (ss : List Step) → anyOf outOfMemoryAt (ownEntries n (log fresh ss)) ≡ false
-    → (ownEntries n (log fresh ss) ≡ log fresh (stepsOf (ownEntries n (log fresh ss))))
-    × (recordOf n (final fresh ss) ≡ recordOf n (final fresh (stepsOf (ownEntries n (log fresh ss)))))
+pub isolated : (n : ℕ) (ss : List Step) → anyOf outOfMemoryAt (ownEntries n (entriesOf fresh ss)) ≡ false
+    → (ownEntries n (entriesOf fresh ss) ≡ entriesOf fresh (stepsOf (ownEntries n (entriesOf fresh ss))))
+    × (recordOf n (final fresh ss) ≡ recordOf n (final fresh (stepsOf (ownEntries n (entriesOf fresh ss)))))
 unfolding fresh solo
 isolated n ss = isolate n fresh ss

@@ -2,7 +2,7 @@
 use Prim.Native.Nat.{ℕ, zero, suc, _+_, _*_, _^_, _<_, _≤_}
 use native.Mathlib.Omega.{arith}
 use mathlib.Core.Path.{_≡_, refl, ap, _∙_, subst}
-use mathlib.Core.Bool.{Bool, true, false, _&&_}
+use mathlib.Core.Bool.{Bool, true, _&&_}
 use mathlib.Core.Option.{Option, none, some}
 use mathlib.Core.List.{List, [], _∷_, _++_, map}
 use lib.ListN.{length, take, drop, length-append}
@@ -22,55 +22,31 @@ use Rattle.model.specs.Frames.{LiveCommand, destroy, drain, createResour
 use Rattle.model.specs.Answers.{ErrorCode, invalidOperation, outOfMemory, invalidStream, invalidResource, invalidParameter, unsupportedControl, Response, success, bufferDone, drainDone, parameters, failure, Answer, words, responseBytes, response, bytesOf, readFrom, answersIn}
 use Rattle.model.specs.Replies.{Reply, Request, own, fail}
 use Rattle.model.specs.Commands.{Surroundings, stoppedAnswers, drainAnswers, onCreate, onDestroy, onDrain, onCreateResource, onQueue, onDestroyAll, drainEnded, onClear, parameterWords, onGet, onSet, onLive, onCommand}
-use Rattle.model.specs.Steps.{Act, command, finish, drained, Step, serve, Outcome, around, step, isError, saysFull}
+use Rattle.model.specs.Steps.{Act, command, finish, drained, Step, serve, Outcome, around, step, isError}
 use Rattle.model.specs.WellFormed.{u32, goodSlot, goodDrain, wellFormed, goodAct}
 use Rattle.model.specs.Promises.{written, ReadBack}
 use Rattle.model.proofs.Walk.{walk, walk-queue}
 use Rattle.model.proofs.Cases.{named, command-cases, finish-cases, drained-cases, step-cases}
+use Rattle.model.proofs.Fits.{isFailure}
 use Rattle.model.proofs.WellFormed.{GoodStream, GoodSelf, good-queue-of, well-record}
 
 -- The type and the size of a response
 
-abbrev pub isFailure : Response → Bool
-isFailure success = false
-isFailure (bufferDone q ts flags) = false
-isFailure drainDone = false
-isFailure (parameters ws) = false
-isFailure (failure e) = true
-
-abbrev pub isFull : Response → Bool
-isFull success = false
-isFull (bufferDone q ts flags) = false
-isFull drainDone = false
-isFull (parameters ws) = false
-isFull (failure invalidOperation) = false
-isFull (failure outOfMemory) = true
-isFull (failure invalidStream) = false
-isFull (failure invalidResource) = false
-isFull (failure invalidParameter) = false
-isFull (failure unsupportedControl) = false
-
-abbrev TypeSays : ℕ → Response → Type 0
-TypeSays n r = (within (word (responseBytes n r) 0) 0x0300 0x0305 ≡ isFailure r) × (eqb (word (responseBytes n r) 0) 0x0301 ≡ isFull r)
-
-type-says : (n : ℕ) (r : Response) → TypeSays n r
+type-says : (n : ℕ) (r : Response) → within (word (responseBytes n r) 0) 0x0300 0x0305 ≡ isFailure r
 unfolding responseBytes field littleEndian within
-type-says n success = (refl, refl)
-type-says n (bufferDone q ts flags) = (refl, refl)
-type-says n drainDone = (refl, refl)
-type-says n (parameters ws) = (refl, refl)
-type-says n (failure invalidOperation) = (refl, refl)
-type-says n (failure outOfMemory) = (refl, refl)
-type-says n (failure invalidStream) = (refl, refl)
-type-says n (failure invalidResource) = (refl, refl)
-type-says n (failure invalidParameter) = (refl, refl)
-type-says n (failure unsupportedControl) = (refl, refl)
+type-says n success = refl
+type-says n (bufferDone q ts flags) = refl
+type-says n drainDone = refl
+type-says n (parameters ws) = refl
+type-says n (failure invalidOperation) = refl
+type-says n (failure outOfMemory) = refl
+type-says n (failure invalidStream) = refl
+type-says n (failure invalidResource) = refl
+type-says n (failure invalidParameter) = refl
+type-says n (failure unsupportedControl) = refl
 
 pub error-is : (a : Answer) → isError (written a) ≡ isFailure (a .response)
-error-is a = (type-says (a .stream) (a .response)) .0
-
-pub full-is : (a : Answer) → saysFull (written a) ≡ isFull (a .response)
-full-is a = (type-says (a .stream) (a .response)) .1
+error-is a = type-says (a .stream) (a .response)
 
 abbrev pub sizeOf : Response → ℕ
 sizeOf success = 8

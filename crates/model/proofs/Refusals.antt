@@ -14,7 +14,7 @@ use Rattle.model.specs.Device.{Stream, Device, fresh, recordOf}
 use Rattle.model.specs.Frames.{LiveCommand, destroy, drain, createResource, queueResource, destroyAll, clear, getParameters, setParameters, queryControl, getControl, setControl, streamId}
 use Rattle.model.specs.Replies.{Reply, Request}
 use Rattle.model.specs.Commands.{Surroundings, onCreate, onDestroy, onDrain, onCreateResource, onQueue, onDestroyAll, onClear, onGet, onSet, onLive, onCommand}
-use Rattle.model.specs.Steps.{Act, command, finish, drained, Step, streamOf, serve, Outcome, around, perform, hostRefusal, step, entryOf, log}
+use Rattle.model.specs.Steps.{Act, command, finish, drained, Step, streamOf, serve, Outcome, around, perform, hostRefusal, step, entryOf, entriesOf}
 use Rattle.model.specs.Tables.{Layout, Lawful, valid, effect}
 use Rattle.model.specs.Promises.{listed, OnlyListed, tableGood, NoTableRefusal}
 use Rattle.model.proofs.Walk.{walk, walk-queue}
@@ -100,7 +100,7 @@ step-table d s =
     (λ e. ap (λ (o : Outcome). tableGood (entryOf s o)) (step-refused d s e)
     ∙ ap (λ (k : ℕ). tableGood (record { step = s; refusal = k; written = 0; bytes = [] })) (room-listed (length (s .room)) e))
 
-log-table : (d : Device) (ss : List Step) → allOf tableGood (log d ss) ≡ true
+log-table : (d : Device) (ss : List Step) → allOf tableGood (entriesOf d ss) ≡ true
 log-table d [] = refl
 log-table d (s ∷ ss) = both (step-table d s) (log-table (step d s .device) ss)
 

@@ -4,10 +4,10 @@ use native.Mathlib.Omega.{arith}
 use mathlib.Core.Path.{_≡_, refl, sym, ap, ap₂, _∙_, subst}
 use mathlib.Core.Bool.{Bool, true, false, cond}
 use mathlib.Core.List.{List, [], _∷_, _++_}
-use lib.ListN.{length, take, drop, length-append}
+use lib.ListN.{length, take, drop, length-append, length-drop}
 use lib.Seq.{take-at, drop-at}
 use lib.Dec.{eqb, ltb}
-use borrow.Author.Tests.{ltb-false, le-ltb}
+use borrow.Author.Tests.{lt-ltb, ltb-false, le-ltb}
 use Rattle.laws.specs.Lists.{allOf, same}
 use Rattle.laws.proofs.Tests.{never, both, and-left, and-right}
 use Rattle.laws.proofs.Lists.{decide, all-keep}
@@ -15,11 +15,13 @@ use Rattle.laws.proofs.Same.{same-refl}
 use Rattle.model.specs.Numbers.{tableWords, answerRoom}
 use Rattle.model.specs.Device.{Device, fresh, recordOf}
 use Rattle.model.specs.Answers.{bytesOf}
-use Rattle.model.specs.Steps.{Step, streamOf, Outcome, perform, hostRefusal, step, Entry, entryOf, log, final}
+use Rattle.model.specs.Steps.{Step, streamOf, Outcome, perform, hostRefusal, step, Entry, entryOf, entriesOf, final}
 use Rattle.model.specs.WellFormed.{wellFormed, goodAct, goodSteps}
-use Rattle.model.specs.Tables.{Layout, Lawful, Effect, untouched, valid, carriedOut, effect, freshen, effectOf, tableEntry, tableLog, tableFinal}
+use Rattle.model.specs.Tables.{Layout, Lawful, Effect, untouched, valid, carriedOut, effect, Freshened, freshen, effectOf, tableEntry, tableEntries, tableFinal}
+use Rattle.model.specs.Promises.{unmarked, FreshShort, FreshLong, NoMarkInTables}
 use Rattle.model.specs.Condition3.{Run, ownEntries, stepsOf, Condition3, onDevice, onTable, OnTables}
 use Rattle.model.proofs.WellFormed.{well-fresh, stays-well-formed}
+use Rattle.model.proofs.Marks.{no-mark}
 use Rattle.model.proofs.Condition3.{condition3}
 use Rattle.model.proofs.Isolation.{step-runs, step-refused, roomRefusal}
 
@@ -93,12 +95,12 @@ module _ (L : Layout) (law : Lawful L) (rest : List ℕ) where
 
   -- and so over a list
 
-  same-log : (d : Device) (ss : List Step) → wellFormed d ≡ true → goodSteps ss ≡ true → tableLog L (wordsOf d) ss ≡ log d ss
+  same-log : (d : Device) (ss : List Step) → wellFormed d ≡ true → goodSteps ss ≡ true → tableEntries L (wordsOf d) ss ≡ entriesOf d ss
   same-log d [] h m = refl
   same-log d (s ∷ ss) h m =
       let here = same-effect d h s in
       ap₂ (λ (x : Entry) (y : List Entry). x ∷ y) (here .0)
-      (ap (λ (t : List ℕ). tableLog L t ss) (here .1)
+      (ap (λ (t : List ℕ). tableEntries L t ss) (here .1)
       ∙ same-log (step d s .device) ss (stays-well-formed d s h (and-left (goodAct (s .act)) (goodSteps ss) m)) (and-right (goodAct (s .act)) (goodSteps ss) m))
 
   same-final : (d : Device) (ss : List Step) → wellFormed d ≡ true → goodSteps ss ≡ true → tableFinal L (wordsOf d) ss ≡ wordsOf (final d ss)
@@ -114,16 +116,19 @@ final-well d (s ∷ ss) h m =
 
 -- Condition 3 over tables
 
+fresh-is : (L : Layout) (t : List ℕ) → tableWords ≤ length t → freshen L t ≡ record { refusal = 0; table = L .encode fresh ++ drop tableWords t }
+unfolding freshen
+fresh-is L t h = simp (le-ltb (length t) tableWords h)
+
 -- a list shows the same on a fresh table as on a fresh device
 module _ (L : Layout) (law : Lawful L) (t : List ℕ) (h : tableWords ≤ length t) where
   start : freshen L t .table ≡ wordsOf L law (drop tableWords t) fresh
-  unfolding freshen
-  start = simp (le-ltb (length t) tableWords h)
+  start = ap (λ (x : Freshened). x .table) (fresh-is L t h)
 
   pub same-run : (ss : List Step) → goodSteps ss ≡ true → onTable L t ss ≡ onDevice ss
   same-run ss m =
       let rest = drop tableWords t in
-      let entries : tableLog L (freshen L t .table) ss ≡ log fresh ss = ap (λ (x : List ℕ). tableLog L x ss) start ∙ same-log L law rest fresh ss well-fresh m in
+      let entries : tableEntries L (freshen L t .table) ss ≡ entriesOf fresh ss = ap (λ (x : List ℕ). tableEntries L x ss) start ∙ same-log L law rest fresh ss well-fresh m in
       let held : L .decode (take tableWords (tableFinal L (freshen L t .table) ss)) ≡ final fresh ss =
       ap (λ (x : List ℕ). L .decode (take tableWords (tableFinal L x ss))) start
       ∙ ap (λ (x : List ℕ). L .decode (take tableWords x)) (same-final L law rest fresh ss well-fresh m)
@@ -139,7 +144,7 @@ module _ (L : Layout) (law : Lawful L) (t : List ℕ) (h : tableWords ≤ length
 
 -- the steps of a stream are steps in the host's types
 
-good-log : (d : Device) (ss : List Step) → goodSteps ss ≡ true → allOf (λ (e : Entry). goodAct (e .step .act)) (log d ss) ≡ true
+good-log : (d : Device) (ss : List Step) → goodSteps ss ≡ true → allOf (λ (e : Entry). goodAct (e .step .act)) (entriesOf d ss) ≡ true
 good-log d [] m = refl
 good-log d (s ∷ ss) m = both (and-left (goodAct (s .act)) (goodSteps ss) m) (good-log (step d s .device) ss (and-right (goodAct (s .act)) (goodSteps ss) m))
 
@@ -155,6 +160,7 @@ other-alone run alone alone′ same c =
       isolated = λ n h.
           let a = c .isolated n h in
           (a .0 ∙ ap (λ (r : Run). r .entries) (sym (same n)), a .1 ∙ ap (λ (r : Run). r .held n) (sym (same n)));
+      framed = c .framed;
       answered = c .answered;
       owes = c .owes;
       once = c .once;
@@ -165,7 +171,37 @@ pub on-tables : (L : Layout) → Lawful L → OnTables L
 on-tables L law t u ss h g m = (
   subst (λ (r : Run). Condition3 r (onTable L u)) (sym (same-run L law t h ss m))
       (other-alone (onDevice ss) (onTable L u) onDevice
-      (λ n. same-run L law u g (stepsOf (ownEntries n (log fresh ss))) (good-steps (ownEntries n (log fresh ss)) (all-keep _ _ (log fresh ss) (good-log fresh ss m))))
+      (λ n. same-run L law u g (stepsOf (ownEntries n (entriesOf fresh ss))) (good-steps (ownEntries n (entriesOf fresh ss)) (all-keep _ _ (entriesOf fresh ss) (good-log fresh ss m))))
       (condition3 ss m)),
   end-valid L law t h ss m,
 )
+
+-- Making fresh
+
+pub fresh-short : (L : Layout) → FreshShort L
+unfolding freshen
+fresh-short L t h = simp (lt-ltb (length t) tableWords h)
+
+pub fresh-long : (L : Layout) → Lawful L → FreshLong L
+fresh-long L law t h =
+    let rest = drop tableWords t in
+    let is = start L law t h in
+    record {
+      result = fresh-result;
+      good = ap (valid L) is ∙ words-valid L law rest fresh well-fresh;
+      empty = ap (λ (x : List ℕ). L .decode (take tableWords x)) is ∙ device-is L law rest fresh well-fresh;
+      rest = ap (drop tableWords) is ∙ behind L law rest fresh well-fresh;
+      wordCount = ap length is ∙ omega (arith, length-append (L .encode fresh) rest, law .size fresh well-fresh, length-drop tableWords t);
+    }
+  where
+    fresh-result : freshen L t .refusal ≡ 0
+    fresh-result = ap (λ (x : Freshened). x .refusal) (fresh-is L t h)
+
+-- no mark in a reached table
+pub no-mark-in-tables : (L : Layout) → Lawful L → NoMarkInTables L
+no-mark-in-tables L law t ss h m =
+    let rest = drop tableWords t in
+    ap (λ (x : List ℕ). allOf unmarked (L .decode (take tableWords (tableFinal L x ss)))) (start L law t h)
+    ∙ ap (λ (x : List ℕ). allOf unmarked (L .decode (take tableWords x))) (same-final L law rest fresh ss well-fresh m)
+    ∙ ap (allOf unmarked) (device-is L law rest (final fresh ss) (final-well fresh ss well-fresh m))
+    ∙ no-mark ss

@@ -20,7 +20,7 @@ use Rattle.model.specs.Replies.{Reply, refuse}
 use Rattle.model.specs.Steps.{Act, command, finish, drained, Step, streamOf, serve, Outcome, refused, around, perform, hostRefusal, step, accepted, entryOf}
 use Rattle.model.specs.WellFormed.{wellFormed, goodAct}
 use Rattle.model.specs.Tables.{Layout, Lawful, Effect, untouched, valid, carriedOut, effect, tableEntry}
-use Rattle.model.specs.Promises.{written, RefusalChangesNothing, OneError, ErrorChangesNothing, RestStays, KeepsRest, StaysValid}
+use Rattle.model.specs.Promises.{written, RefusalChangesNothing, OneError, ErrorChangesNothing, RestStays, KeepsRest, StaysValid, WritesAtMost}
 use Rattle.model.specs.Ledger.{ticketIn}
 use Rattle.model.proofs.Places.{put-self}
 use Rattle.model.proofs.Cases.{finish-cases, drained-cases}
@@ -160,7 +160,7 @@ module _ (L : Layout) (t : List ℕ) (a : Act) (room : List ℕ) where
     errors : (o : Outcome) → NotAccepted device a o → o .refusal ≡ 0 → OneError t a (carriedOut L o t room)
     unfolding responseBytes littleEndian
     errors _ (numbered j z) h = never (sym (ap (λ (x : ℕ). eqb x 0) h) ∙ z)
-    errors _ (answered u f x is) h = record { ticket = u; frame = f; error = x; asked = is; answer = refl; stays = stays }
+    errors _ (answered u f x is) h = record { ticket = u; frame = f; error = x; asked = is; count = refl; answer = refl; stays = stays }
 
     shows : tableEntry L asStep it ≡ entryOf asStep outcome
     shows =
@@ -224,3 +224,15 @@ keeps-rest L law t a room m =
 pub stays-valid : (L : Layout) → Lawful L → StaysValid L
 stays-valid L law t a room m v =
     decide (eqb (k L t a room) 0) (λ e. still-valid L t a room e law m) (λ e. ap (λ (x : Effect). valid L (x .table)) (it-refused L t a room e) ∙ v)
+
+pub writes-at-most : (L : Layout) → WritesAtMost L
+writes-at-most L t a room =
+    decide (eqb (k L t a room) 0)
+    (λ e.
+    omega (
+      arith,
+      ap (λ (x : Effect). x .written) (carried L t a room e),
+      ap (λ (o : Outcome). length (bytesOf (o .answers))) (stepped L t a room e),
+      fits-room (device L t a room) (asStep L t a room) (well L t a room e),
+    ))
+    (λ e. omega (arith, ap (λ (x : Effect). x .written) (it-refused L t a room e)))

@@ -10,6 +10,7 @@ use Rattle.model.specs.Frames.{word}
 pub data ErrorCode : Type 0 where
   invalidOperation outOfMemory invalidStream invalidResource invalidParameter unsupportedControl : ErrorCode
 
+-- their numbers
 abbrev pub code : ErrorCode → ℕ
 code invalidOperation = 0x0300
 code outOfMemory = 0x0301
@@ -18,7 +19,8 @@ code invalidResource = 0x0303
 code invalidParameter = 0x0304
 code unsupportedControl = 0x0305
 
--- plain success; a buffer of a queue with its timestamp and flags; a drain that ended; parameters in words; an error
+-- plain success; a buffer of a queue with its timestamp and flags; a drain that ended; parameters in words; an error. A buffer's queue is
+-- not written, and a drain's bytes are those of plain success: the type keeps apart what the bytes do not.
 pub data Response : Type 0 where
   success : Response
   bufferDone : QueueType → (timestamp flags : ℕ) → Response
@@ -26,6 +28,7 @@ pub data Response : Type 0 where
   parameters : List ℕ → Response
   failure : ErrorCode → Response
 
+-- an answer: the ticket that it goes to, the stream, and what it says
 pub record Answer : Type 0 where
   pub ticket : ℕ
   pub stream : ℕ
@@ -44,6 +47,7 @@ responseBytes n drainDone = words (0x0200 ∷ n ∷ [])
 responseBytes n (parameters ws) = words (0x0203 ∷ n ∷ ws)
 responseBytes n (failure e) = words (code e ∷ n ∷ [])
 
+-- the bytes of an answer's response
 abbrev pub response : Answer → List ℕ
 response a = responseBytes (a .stream) (a .response)
 
@@ -63,6 +67,11 @@ readFrom zero s = []
 readFrom (suc k) [] = []
 readFrom (suc k) (b ∷ s) =
     record { ticket = word (b ∷ s) 0; response = take (word (b ∷ s) 4) (drop 8 (b ∷ s)) } ∷ readFrom k (drop (8 + word (b ∷ s) 4) (b ∷ s))
+
+-- answers as they stand in the room, written again
+abbrev pub rewritten : List Written → List ℕ
+rewritten [] = []
+rewritten (w ∷ l) = littleEndian 4 (w .ticket) ++ (littleEndian 4 (length (w .response)) ++ (w .response ++ rewritten l))
 
 -- the answers in bytes: no more than there are bytes
 abbrev pub answersIn : List ℕ → List Written

@@ -9,9 +9,9 @@ use lib.Dec.{eqb, ltb}
 use Rattle.laws.specs.Tests.{within}
 use Rattle.laws.specs.Lists.{isEmpty, isNone, toList, total}
 use Rattle.tag.specs.Tag.{goodTag, tagIn}
-use Rattle.model.specs.Numbers.{queueSlots, firstCoded, lastCoded, nv12, err}
+use Rattle.model.specs.Numbers.{queueSlots, maxPlanes, firstCoded, lastCoded, nv12, err}
 use Rattle.model.specs.Device.{QueueType, input, output, queued, Queue, Stream, newStream, queueOf, withQueue, withDrain, withSlots, Buffer, queuedIn, buffers, bufferOf, present, noSlot, addResource, setState, stopAll, freeAll}
-use Rattle.model.specs.Frames.{LiveCommand, destroy, drain, createResource, queueResource, destroyAll, clear, getParameters, setParameters, queryControl, getControl, setControl, Command, create, live, CommandLine, commandOf, wrongLength, queueNumber, queueNamed, commandType, inMemType, outMemType, codedFormat, queueType, resourceId, planesLayout, numPlanes, numEntries, entries, entryBytes, entryAddr, entryLength, timestampSent, numDataSizes, formatSent, frameWidth, frameHeight, frameRate}
+use Rattle.model.specs.Frames.{LiveCommand, destroy, drain, createResource, queueResource, destroyAll, clear, getParameters, setParameters, queryControl, getControl, setControl, Command, create, live, CommandLine, commandOf, wrongLength, queueNumber, queueNamed, commandType, inMemType, outMemType, codedFormat, queueType, resourceId, planesLayout, numPlanes, numEntries, entriesStart, entries, entryBytes, entryAddr, entryLength, timestampSent, numDataSizes, formatSent, frameWidth, frameHeight, frameRate}
 use Rattle.model.specs.Answers.{invalidOperation, outOfMemory, invalidStream, invalidResource, invalidParameter, unsupportedControl, success, bufferDone, drainDone, parameters, Answer}
 use Rattle.model.specs.Replies.{Reply, reply, Request, own, fail, Tests, accept, _⇒_then_, first, forQueue}
 
@@ -73,14 +73,15 @@ onCreateResource c b =
     (forQueue (queueNamed (queueType f)) λ q.
     let s = queueOf q b .slots in
     not (within (planesLayout f) 1 2) ⇒ invalidParameter then
-    not (within (numPlanes f) 1 8) ⇒ invalidParameter then
+    not (within (numPlanes f) 1 maxPlanes) ⇒ invalidParameter then
     not (within sum 1 256) ⇒ invalidParameter then
-    not (eqb (length f) (88 + entryBytes * sum)) ⇒ invalidParameter then
+    not (eqb (length f) (entriesStart + entryBytes * sum)) ⇒ invalidParameter then
     badEntry sum (entries f) ⇒ invalidParameter then
     present r s ⇒ invalidResource then
     noSlot s ⇒ outOfMemory then
     succeed c (some (withQueue q (withSlots (addResource r s) (queueOf q b)) b)))
 
+-- the input queue
 abbrev pub isInput : QueueType → Bool
 isInput input = true
 isInput output = false
@@ -93,7 +94,7 @@ onQueue c b =
     first c
     (forQueue (queueNamed (queueType f)) λ q.
     let s = queueOf q b .slots in
-    ltb 8 (numDataSizes f) ⇒ invalidParameter then
+    ltb maxPlanes (numDataSizes f) ⇒ invalidParameter then
     isInput q && not (isNone (b .draining)) ⇒ invalidOperation then
     queueOf q b .clearing ⇒ invalidOperation then
     not (present r s) ⇒ invalidResource then
@@ -114,6 +115,7 @@ abbrev pub drainEnded : QueueType → Stream → Option ℕ
 drainEnded input b = b .draining
 drainEnded output b = none
 
+-- the drain that is owed after it
 abbrev pub drainLeft : QueueType → Stream → Option ℕ
 drainLeft input b = none
 drainLeft output b = b .draining
@@ -198,9 +200,11 @@ onStream around c create (some b) = fail c invalidStream
 onStream around c (live k) none = fail c invalidStream
 onStream around c (live k) (some b) = onLive k c b
 
+-- a type without a line is an invalid operation; a wrong length is an invalid parameter
 abbrev pub onLine : Surroundings → Request → Option CommandLine → Reply
 onLine around c none = fail c invalidOperation
 onLine around c (some l) = cond (wrongLength (l .length) (length (c .frame))) (fail c invalidParameter) (onStream around c (l .command) (c .self))
 
+-- a command, by its type
 unfoldable pub onCommand : Surroundings → Request → Reply
 onCommand around c = onLine around c (commandOf (commandType (c .frame)))

@@ -10,6 +10,7 @@ use Rattle.laws.specs.Lists.{isNone}
 use Rattle.laws.specs.Ascending.{ascending}
 use Rattle.model.specs.Numbers.{streamPlaces, queueSlots}
 
+-- the queue types: compressed input, pictures out
 pub data QueueType : Type 0 where
   input output : QueueType
 
@@ -19,6 +20,7 @@ pub data State : Type 0 where
   queued : (ticket timestamp : ℕ) → State
   dequeued : State
 
+-- a slot is free or holds a resource
 pub data Slot : Type 0 where
   free : Slot
   resource : (number : ℕ) → State → Slot
@@ -38,10 +40,12 @@ pub record Stream : Type 0 where
   pub inputs : Queue
   pub outputs : Queue
 
+-- a place is vacant or holds the record of a live stream
 pub data Place : Type 0 where
   vacant : Place
   occupied : (number : ℕ) → Stream → Place
 
+-- eight places
 abbrev pub Device : Type 0
 Device = List Place
 
@@ -49,26 +53,31 @@ Device = List Place
 unfoldable pub fresh : Device
 fresh = replicate streamPlaces vacant
 
--- what a creation leaves: 640 by 480, rate 0, no resources, no drain
+-- what a creation leaves: 640 by 480, rate 0, no mark, no resources
 abbrev pub newQueue : Queue
 newQueue = record { width = 640; height = 480; rate = 0; clearing = false; slots = replicate queueSlots free }
 
+-- a new stream, of a coded format
 abbrev pub newStream : ℕ → Stream
 newStream format = record { format = format; draining = none; inputs = newQueue; outputs = newQueue }
 
 -- A record's parts, and the record with another part
 
+-- a queue of a stream
 abbrev pub queueOf : QueueType → Stream → Queue
 queueOf input b = b .inputs
 queueOf output b = b .outputs
 
+-- the record with another queue
 abbrev pub withQueue : QueueType → Queue → Stream → Stream
 withQueue input q b = record { format = b .format; draining = b .draining; inputs = q; outputs = b .outputs }
 withQueue output q b = record { format = b .format; draining = b .draining; inputs = b .inputs; outputs = q }
 
+-- the record with another owed drain, or none
 abbrev pub withDrain : Option ℕ → Stream → Stream
 withDrain d b = record { format = b .format; draining = d; inputs = b .inputs; outputs = b .outputs }
 
+-- the queue with other slots
 abbrev pub withSlots : List Slot → Queue → Queue
 withSlots s q = record { width = q .width; height = q .height; rate = q .rate; clearing = q .clearing; slots = s }
 
@@ -80,10 +89,11 @@ pub record Buffer : Type 0 where
   pub ticket : ℕ
   pub timestamp : ℕ
 
+-- the same, by its parts
 abbrev pub buffer : ℕ → ℕ → ℕ → Buffer
 buffer r t ts = record { resource = r; ticket = t; timestamp = ts }
 
--- in the order of their slots
+-- the Queued buffers, in the order of their slots
 abbrev pub queuedIn : List Slot → List Buffer
 queuedIn [] = []
 queuedIn (free ∷ s) = queuedIn s
@@ -91,10 +101,11 @@ queuedIn (resource r created ∷ s) = queuedIn s
 queuedIn (resource r (queued t ts) ∷ s) = buffer r t ts ∷ queuedIn s
 queuedIn (resource r dequeued ∷ s) = queuedIn s
 
+-- buffers by ascending resource number
 abbrev pub byResource : List Buffer → List Buffer
 byResource = ascending (λ (i : Buffer). i .resource)
 
--- by ascending resource number
+-- the Queued buffers of a queue, by ascending resource number
 abbrev pub buffers : QueueType → Stream → List Buffer
 buffers q b = byResource (queuedIn (queueOf q b .slots))
 
@@ -129,6 +140,7 @@ setState r p [] = []
 setState r p (free ∷ s) = free ∷ setState r p s
 setState r p (resource m q ∷ s) = resource m (cond (eqb m r) p q) ∷ setState r p s
 
+-- what a clear makes of a state
 abbrev pub stopped : State → State
 stopped created = created
 stopped (queued t ts) = dequeued
@@ -140,6 +152,7 @@ stopAll [] = []
 stopAll (free ∷ s) = free ∷ stopAll s
 stopAll (resource m p ∷ s) = resource m (stopped p) ∷ stopAll s
 
+-- every slot freed
 abbrev pub freeAll : List Slot → List Slot
 freeAll [] = []
 freeAll (p ∷ s) = free ∷ freeAll s
@@ -158,6 +171,7 @@ noPlace [] = true
 noPlace (vacant ∷ d) = false
 noPlace (occupied m b ∷ d) = noPlace d
 
+-- the place of a stream with a record, or with none
 abbrev pub place : ℕ → Option Stream → Place
 place n none = vacant
 place n (some b) = occupied n b

@@ -6,36 +6,47 @@ use mathlib.Core.List.{List, [], _∷_}
 use lib.ListN.{drop}
 use lib.Dec.{eqb, ltb}
 use Rattle.field.specs.Field.{field}
+use Rattle.tag.specs.Tag.{createType, createLength}
+use Rattle.model.specs.Numbers.{maxPlanes}
 use Rattle.model.specs.Device.{QueueType, input, output}
 
 infix 80 _is_ofLength_
 -- The commands
 
+-- where a resource_create's own fields end and its entries start
+abbrev pub entriesStart : ℕ
+entriesStart = 88
+
 -- those to a live stream
 pub data LiveCommand : Type 0 where
   destroy drain createResource queueResource destroyAll clear getParameters setParameters queryControl getControl setControl : LiveCommand
 
+-- all commands: only a creation is for a stream that is not live
 pub data Command : Type 0 where
   create : Command
   live : LiveCommand → Command
 
+-- how long a frame must be
 pub data Length : Type 0 where
   exactly atLeast : ℕ → Length
 
+-- a line of the table: type, command, length
 pub record CommandLine : Type 0 where
   pub type : ℕ
   pub command : Command
   pub length : Length
 
+-- a line as it is written below
 abbrev pub _is_ofLength_ : ℕ → Command → Length → CommandLine
 ty is c ofLength l = record { type = ty; command = c; length = l }
 
+-- the table of commands
 abbrev pub commands : List CommandLine
 commands =
-    0x0101 is create ofLength exactly 88
+    createType is create ofLength exactly createLength
     ∷ 0x0102 is live destroy ofLength exactly 8
     ∷ 0x0103 is live drain ofLength exactly 8
-    ∷ 0x0104 is live createResource ofLength atLeast 88
+    ∷ 0x0104 is live createResource ofLength atLeast entriesStart
     ∷ 0x0105 is live queueResource ofLength exactly 64
     ∷ 0x0106 is live destroyAll ofLength exactly 16
     ∷ 0x0107 is live clear ofLength exactly 16
@@ -46,6 +57,7 @@ commands =
     ∷ 0x010C is live setControl ofLength atLeast 16
     ∷ []
 
+-- the line of a type
 abbrev pub lineOf : ℕ → List CommandLine → Option CommandLine
 lineOf ty [] = none
 lineOf ty (l ∷ ls) = cond (eqb (l .type) ty) (some l) (lineOf ty ls)
@@ -54,22 +66,25 @@ lineOf ty (l ∷ ls) = cond (eqb (l .type) ty) (some l) (lineOf ty ls)
 unfoldable pub commandOf : ℕ → Option CommandLine
 commandOf ty = lineOf ty commands
 
+-- a length that is not the command's
 abbrev pub wrongLength : Length → ℕ → Bool
 wrongLength (exactly k) n = not (eqb n k)
 wrongLength (atLeast k) n = ltb n k
 
 -- Queue types
 
+-- the numbers of the queue types
 abbrev pub queueNumber : QueueType → ℕ
 queueNumber input = 0x100
 queueNumber output = 0x101
 
 -- the queue that a number names, if it names one
 unfoldable pub queueNamed : ℕ → Option QueueType
-queueNamed n = cond (eqb n 0x100) (some input) (cond (eqb n 0x101) (some output) none)
+queueNamed n = cond (eqb n (queueNumber input)) (some input) (cond (eqb n (queueNumber output)) (some output) none)
 
 -- Fields
 
+-- the 32-bit number at an offset
 abbrev pub word : List ℕ → ℕ → ℕ
 word f at = field 4 f at
 
@@ -110,10 +125,10 @@ wordsAt f at zero = []
 wordsAt f at (suc k) = word f at ∷ wordsAt f (at + 4) k
 
 abbrev pub numEntries : List ℕ → List ℕ
-numEntries f = wordsAt f 56 8
+numEntries f = wordsAt f 56 maxPlanes
 
 abbrev pub entries : List ℕ → List ℕ
-entries f = drop 88 f
+entries f = drop entriesStart f
 
 -- mem_entry
 abbrev pub entryBytes : ℕ

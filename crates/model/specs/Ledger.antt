@@ -20,6 +20,7 @@ pub record Fed : Type 0 where
   pub isZero : Bool
   pub accepted : Bool
 
+-- the same, by its parts
 abbrev pub fed : ℕ → Act → Bool → Bool → Fed
 fed k a z acc = record { number = k; act = a; isZero = z; accepted = acc }
 
@@ -28,15 +29,18 @@ pub data Awaited : Type 0 where
   toBuffer : (queueType resource timestamp : ℕ) → Awaited
   toDrain : Awaited
 
+-- a pending answer: the number of the step that added it, its ticket, its stream, what it answers
 pub record Pending : Type 0 where
   pub step : ℕ
   pub ticket : ℕ
   pub stream : ℕ
   pub awaited : Awaited
 
+-- the pending answers
 abbrev pub Ledger : Type 0
 Ledger = List Pending
 
+-- the frame is of that type
 abbrev pub isType : ℕ → List ℕ → Bool
 isType ty f = eqb (field 4 f 0) ty
 
@@ -59,42 +63,50 @@ awaitedBy (command t f) =
 awaitedBy (finish n qt r flags ts) = none
 awaitedBy (drained n) = none
 
+-- one pending answer, if there is one to add
 abbrev pub pending : ℕ → ℕ → ℕ → Option Awaited → List Pending
 pending k t n none = []
 pending k t n (some w) = record { step = k; ticket = t; stream = n; awaited = w } ∷ []
 
+-- what an accepted step adds
 abbrev pub adds : ℕ → Act → List Pending
 adds k a = pending k (ticketIn a) (streamIn a) (awaitedBy a)
 
--- Of its stream an accepted finish pays the answer of its queue type and resource; a drained report the drain; 0x0107 its queue's, and
--- for input the drain; 0x0102 all.
+-- the answer to a buffer of that queue type
 abbrev pub isBufferOf : ℕ → Awaited → Bool
 isBufferOf qt (toBuffer q r ts) = eqb q qt
 isBufferOf qt toDrain = false
 
+-- the answer to a drain
 abbrev pub isDrain : Awaited → Bool
 isDrain (toBuffer q r ts) = false
 isDrain toDrain = true
 
+-- its resource
 abbrev pub resourceIn : Awaited → ℕ
 resourceIn (toBuffer q r ts) = r
 resourceIn toDrain = 0
 
+-- Of its stream an accepted finish pays the answer of its queue type and resource; a drained report the drain; 0x0107 its queue's, and
+-- for input the drain; 0x0102 all.
 unfoldable pub pays : Act → Awaited → Bool
 pays (command t f) w = isType 0x0102 f || (isType 0x0107 f && (isBufferOf (field 4 f 8) w || (eqb (field 4 f 8) 0x100 && isDrain w)))
 pays (finish n qt r flags ts) w = isBufferOf qt w && eqb (resourceIn w) r
 pays (drained n) w = isDrain w
 
+-- it is of the step's stream, and the step pays it
 abbrev pub due : Act → Pending → Bool
 due a p = eqb (p .stream) (streamIn a) && pays a (p .awaited)
 
--- in the order of payment: inputs, then outputs, each by ascending resource, then the drain
+-- by ascending resource
 abbrev pub byNumber : List Pending → List Pending
 byNumber = ascending (λ (p : Pending). resourceIn (p .awaited))
 
+-- a test of what is awaited
 abbrev pub awaits : (Awaited → Bool) → Pending → Bool
 awaits q p = q (p .awaited)
 
+-- in the order of payment: inputs, then outputs, each by ascending resource, then the drain
 unfoldable pub inOrder : List Pending → List Pending
 inOrder l = byNumber (keep (awaits (isBufferOf 0x100)) l) ++ (byNumber (keep (awaits (isBufferOf 0x101)) l) ++ keep (awaits isDrain) l)
 
@@ -102,6 +114,7 @@ inOrder l = byNumber (keep (awaits (isBufferOf 0x100)) l) ++ (byNumber (keep (aw
 abbrev pub ledgerAfter : Fed → Ledger → Ledger
 ledgerAfter s l = cond (s .accepted) (adds (s .number) (s .act) ++ keep (λ (p : Pending). not (due (s .act) p)) l) l
 
+-- what a step pays, in order
 abbrev pub paid : Fed → Ledger → List Pending
 paid s l = cond (s .accepted) (inOrder (keep (due (s .act)) l)) []
 
@@ -117,6 +130,7 @@ expectedTickets s l = map (λ (p : Pending). p .ticket) (paid s l) ++ ownTickets
 
 -- A list of steps
 
+-- what the ledger is fed of an entry with a number
 abbrev pub fedOf : ℕ → Entry → Fed
 fedOf k e = fed k (e .step .act) (eqb (e .refusal) 0) (accepted e)
 
@@ -129,6 +143,7 @@ ledgerFrom k l (e ∷ es) = ledgerFrom (suc k) (ledgerAfter (fedOf k e) l) es
 abbrev pub ledgerOf : List Entry → Ledger
 ledgerOf es = ledgerFrom 0 [] es
 
+-- the tickets of written answers
 abbrev pub tickets : List Written → List ℕ
 tickets = map (λ (w : Written). w .ticket)
 
@@ -143,6 +158,7 @@ reached [] ps = []
 reached (w ∷ ws) [] = []
 reached (w ∷ ws) (p ∷ ps) = p ∷ reached ws ps
 
+-- added by the step with that number
 abbrev pub ofStep : ℕ → Pending → Bool
 ofStep k p = eqb (p .step) k
 
@@ -153,10 +169,12 @@ answersTo j k l (e ∷ es) = count (ofStep j) (reached (answersOf e) (paid (fedO
 
 -- What is owed, apart from step numbers
 
+-- a ticket and what it awaits
 pub record Owed : Type 0 where
   pub ticket : ℕ
   pub awaited : Awaited
 
+-- the same, by its parts
 abbrev pub owed : ℕ → Awaited → Owed
 owed t w = record { ticket = t; awaited = w }
 
@@ -168,9 +186,11 @@ owedTo n l = map (λ (p : Pending). owed (p .ticket) (p .awaited)) (keep (λ (p 
 abbrev pub owedBuffers : ℕ → List Buffer → List Owed
 owedBuffers qt = map (λ (i : Buffer). owed (i .ticket) (toBuffer qt (i .resource) (i .timestamp)))
 
+-- its drain, if one is owed
 abbrev pub owedDrain : Option ℕ → List Owed
 owedDrain d = map (λ (t : ℕ). owed t toDrain) (toList d)
 
+-- both, or nothing where there is no record
 abbrev pub owedIn : Option Stream → List Owed
 owedIn none = []
 owedIn (some b) = owedBuffers 0x100 (queuedIn (b .inputs .slots)) ++ (owedBuffers 0x101 (queuedIn (b .outputs .slots)) ++ owedDrain (b .draining))

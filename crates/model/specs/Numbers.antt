@@ -1,4 +1,4 @@
--- The numbers of document 01 that more than one definition needs, each once.
+-- The numbers of document 01 that have a name, each once.
 use Prim.Native.Nat.{ℕ}
 
 -- the used words of the lent table
@@ -26,6 +26,10 @@ lastCoded = 0x1005
 -- the one raw format, NV12
 abbrev pub nv12 : ℕ
 nv12 = 3
+
+-- the planes of a buffer at most
+abbrev pub maxPlanes : ℕ
+maxPlanes = 8
 
 -- a header: type and stream number
 abbrev pub headerBytes : ℕ

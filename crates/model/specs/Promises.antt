@@ -1,18 +1,18 @@
 -- What else holds of every step and of every list of steps. Each statement is proved in proofs/.
-use Prim.Native.Nat.{ℕ, _≤_}
+use Prim.Native.Nat.{ℕ, _≤_, _<_}
 use mathlib.Core.Path.{_≡_}
 use mathlib.Core.Bool.{Bool, true, false, not, _&&_, _||_}
 use mathlib.Core.List.{List, [], _∷_, map}
 use lib.ListN.{length, take, drop}
 use lib.Dec.{eqb, leb}
-use Rattle.laws.specs.Lists.{allOf}
+use Rattle.laws.specs.Lists.{allOf, count}
 use Rattle.model.specs.Numbers.{tableWords, answerRoom}
 use Rattle.model.specs.Device.{Place, vacant, occupied, Device, fresh}
 use Rattle.model.specs.Frames.{streamId}
 use Rattle.model.specs.Answers.{ErrorCode, code, Answer, response, words, bytesOf, Written, answersIn}
-use Rattle.model.specs.Steps.{Act, command, finish, drained, Step, step, Entry, final, accepted}
+use Rattle.model.specs.Steps.{Act, command, finish, drained, Step, step, Entry, entryOf, final, accepted, outOfMemoryAt}
 use Rattle.model.specs.WellFormed.{wellFormed, goodAct, goodSteps}
-use Rattle.model.specs.Tables.{Layout, Effect, untouched, valid, effect, freshen, tableEntry, tableLog}
+use Rattle.model.specs.Tables.{Layout, Effect, untouched, valid, effect, freshen, tableEntry, tableEntries, tableFinal}
 
 -- Over devices
 
@@ -24,22 +24,48 @@ StaysWellFormed = (d : Device) (s : Step) → wellFormed d ≡ true → goodAct 
 abbrev pub FitsRoom : Type 0
 FitsRoom = (d : Device) (s : Step) → wellFormed d ≡ true → length (bytesOf (step d s .answers)) ≤ answerRoom
 
--- no reached device carries a clear-in-progress mark
+-- no mark on either queue
 abbrev pub unmarked : Place → Bool
 unmarked vacant = true
 unmarked (occupied n b) = not (b .inputs .clearing) && not (b .outputs .clearing)
 
+-- no reached device carries a clear-in-progress mark
 abbrev pub NoMark : Type 0
 NoMark = (ss : List Step) → allOf unmarked (final fresh ss) ≡ true
 
--- the bytes of a step's answers can be read back into answers
+-- an answer as it should stand in the room
 abbrev pub written : Answer → Written
 written a = record { ticket = a .ticket; response = response a }
 
+-- the bytes of a step's answers can be read back into answers
 abbrev pub ReadBack : Type 0
 ReadBack = (d : Device) (s : Step) → wellFormed d ≡ true → goodAct (s .act) ≡ true → answersIn (bytesOf (step d s .answers)) ≡ map written (step d s .answers)
 
+-- a place that holds a stream
+abbrev pub isLive : Place → Bool
+isLive vacant = false
+isLive (occupied n b) = true
+
+-- 'out of memory' to a creation only where all eight places hold a stream
+abbrev pub FullAtEight : Type 0
+FullAtEight = (d : Device) (s : Step) → wellFormed d ≡ true → outOfMemoryAt (entryOf s (step d s)) ≡ true → count isLive d ≡ 8
+
 -- Over tables, of any words and any room
+
+-- a short table is not made fresh
+abbrev pub FreshShort : Layout → Type 0
+FreshShort L = (t : List ℕ) → length t < tableWords → freshen L t ≡ record { refusal = 1; table = t }
+
+-- any other is: it is then valid and stands for no stream, and the words behind stay
+pub record FreshStart (L : Layout) (t : List ℕ) : Type 0 where
+  pub result : freshen L t .refusal ≡ 0
+  pub good : valid L (freshen L t .table) ≡ true
+  pub empty : L .decode (take tableWords (freshen L t .table)) ≡ fresh
+  pub rest : drop tableWords (freshen L t .table) ≡ drop tableWords t
+  pub wordCount : length (freshen L t .table) ≡ length t
+
+abbrev pub FreshLong : Layout → Type 0
+FreshLong L = (t : List ℕ) → tableWords ≤ length t → FreshStart L t
 
 -- a refusal writes nothing and changes nothing
 abbrev pub RefusalChangesNothing : Layout → Type 0
@@ -52,9 +78,11 @@ pub record OneError (t : List ℕ) (a : Act) (e : Effect) : Type 0 where
   pub frame : List ℕ
   pub error : ErrorCode
   pub asked : a ≡ command ticket frame
+  pub count : e .written ≡ 16
   pub answer : take (e .written) (e .room) ≡ words (ticket ∷ 8 ∷ code error ∷ streamId frame ∷ [])
   pub stays : e .table ≡ t
 
+-- an error answer changes nothing else
 abbrev pub ErrorChangesNothing : Layout → Type 0
 ErrorChangesNothing L =
     (t : List ℕ) (s : Step) → goodAct (s .act) ≡ true → effect L t (s .act) (s .room) .refusal ≡ 0
@@ -67,6 +95,7 @@ pub record RestStays (t room : List ℕ) (e : Effect) : Type 0 where
   pub bytes : drop (e .written) (e .room) ≡ drop (e .written) room
   pub byteCount : length (e .room) ≡ length room
 
+-- of every step
 abbrev pub KeepsRest : Layout → Type 0
 KeepsRest L = (t : List ℕ) (a : Act) (room : List ℕ) → goodAct a ≡ true → RestStays t room (effect L t a room)
 
@@ -80,12 +109,24 @@ listed (command t f) k = leb k 4
 listed (finish n qt r flags ts) k = leb k 3 || eqb k 5 || eqb k 6
 listed (drained n) k = leb k 3 || eqb k 5
 
+-- no step has another
 abbrev pub OnlyListed : Layout → Type 0
 OnlyListed L = (t : List ℕ) (a : Act) (room : List ℕ) → listed a (effect L t a room .refusal) ≡ true
 
--- no step of a list from a fresh table is refused for its table
+-- refused with neither 1 nor 2
 abbrev pub tableGood : Entry → Bool
 tableGood e = not (eqb (e .refusal) 1) && not (eqb (e .refusal) 2)
 
+-- no step of a list from a fresh table is refused for its table
 abbrev pub NoTableRefusal : Layout → Type 0
-NoTableRefusal L = (t : List ℕ) (ss : List Step) → tableWords ≤ length t → goodSteps ss ≡ true → allOf tableGood (tableLog L (freshen L t .table) ss) ≡ true
+NoTableRefusal L = (t : List ℕ) (ss : List Step) → tableWords ≤ length t → goodSteps ss ≡ true → allOf tableGood (tableEntries L (freshen L t .table) ss) ≡ true
+
+-- a step writes at most 1,056 bytes
+abbrev pub WritesAtMost : Layout → Type 0
+WritesAtMost L = (t : List ℕ) (a : Act) (room : List ℕ) → effect L t a room .written ≤ 1056
+
+-- no reached table carries a clear-in-progress mark
+abbrev pub NoMarkInTables : Layout → Type 0
+NoMarkInTables L =
+    (t : List ℕ) (ss : List Step) → tableWords ≤ length t → goodSteps ss ≡ true
+    → allOf unmarked (L .decode (take tableWords (tableFinal L (freshen L t .table) ss))) ≡ true

@@ -13,10 +13,11 @@ pub record Reply : Type 0 where
   pub answers : List Answer
   pub next : Option Stream
 
--- refused by the host's table of numbers: no answer, the record stays
+-- a host refusal: no answer, the record stays
 abbrev pub refuse : ℕ → Option Stream → Reply
 refuse k self = record { refusal = k; answers = []; next = self }
 
+-- result 0: answers, and the next record
 abbrev pub reply : List Answer → Option Stream → Reply
 reply l next = record { refusal = 0; answers = l; next = next }
 
@@ -41,6 +42,7 @@ pub data Tests : Type 0 where
   reject : ErrorCode → Tests
   _⇒_then_ : Bool → ErrorCode → Tests → Tests
 
+-- what the tests give
 unfoldable pub first : Request → Tests → Reply
 first c (accept v) = v
 first c (reject e) = fail c e

@@ -29,10 +29,12 @@ finishBuffer n r flags ts b q (some i) =
     (reply (record { ticket = i .ticket; stream = n; response = bufferDone q (timestampOf q i ts) flags } ∷ [])
     (some (withQueue q (withSlots (setState r dequeued (queueOf q b .slots)) (queueOf q b)) b)))
 
+-- and of the queue that it names
 abbrev pub finishQueue : ℕ → ℕ → ℕ → ℕ → Stream → Option QueueType → Reply
 finishQueue n r flags ts b none = refuse 5 (some b)
 finishQueue n r flags ts b (some q) = finishBuffer n r flags ts b q (bufferOf r (queuedIn (queueOf q b .slots)))
 
+-- and of the stream that it names
 abbrev pub finishStream : ℕ → ℕ → ℕ → ℕ → ℕ → Option Stream → Reply
 finishStream n qt r flags ts none = refuse 5 none
 finishStream n qt r flags ts (some b) = finishQueue n r flags ts b (queueNamed qt)

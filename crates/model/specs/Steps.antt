@@ -7,6 +7,7 @@ use lib.ListN.{length}
 use lib.Dec.{eqb, ltb}
 use Rattle.laws.specs.Tests.{within}
 use Rattle.laws.specs.Lists.{anyOf}
+use Rattle.field.specs.Field.{field}
 use Rattle.model.specs.Numbers.{tableWords, answerRoom, headerBytes}
 use Rattle.model.specs.Device.{Stream, Device, recordOf, noPlace, put}
 use Rattle.model.specs.Frames.{word, streamId}
@@ -48,9 +49,11 @@ pub record Outcome : Type 0 where
   pub answers : List Answer
   pub device : Device
 
+-- refused: nothing written, the device stays
 abbrev pub refused : ℕ → Device → Outcome
 refused k d = record { refusal = k; answers = []; device = d }
 
+-- what a creation sees of a device
 abbrev pub around : Device → Surroundings
 around d = record { full = noPlace d }
 
@@ -80,19 +83,23 @@ pub record Entry : Type 0 where
   pub written : ℕ
   pub bytes : List ℕ
 
+-- the entry of a step on a device
 abbrev pub entryOf : Step → Outcome → Entry
 entryOf s o = record { step = s; refusal = o .refusal; written = length (bytesOf (o .answers)); bytes = bytesOf (o .answers) }
 
-abbrev pub log : Device → List Step → List Entry
-log d [] = []
-log d (s ∷ ss) = entryOf s (step d s) ∷ log (step d s .device) ss
+-- a list of steps, each on the device that the last one left
+abbrev pub entriesOf : Device → List Step → List Entry
+entriesOf d [] = []
+entriesOf d (s ∷ ss) = entryOf s (step d s) ∷ entriesOf (step d s .device) ss
 
+-- the device at its end
 abbrev pub final : Device → List Step → Device
 final d [] = d
 final d (s ∷ ss) = final (step d s .device) ss
 
--- What an entry shows
+-- What an entry shows. The numbers of 01 are written here again, and not taken from the device's definitions, so that a mistake there shows.
 
+-- the answers that it wrote
 abbrev pub answersOf : Entry → List Written
 answersOf e = answersIn (e .bytes)
 
@@ -104,19 +111,28 @@ isError w = within (word (w .response) 0) 0x0300 0x0305
 unfoldable pub accepted : Entry → Bool
 accepted e = eqb (e .refusal) 0 && not (anyOf isError (answersOf e))
 
+-- that number is n
 abbrev pub isOwner : ℕ → Option ℕ → Bool
 isOwner n none = false
 isOwner n (some m) = eqb m n
 
--- a step belongs to the stream number in it
-unfoldable pub belongs : ℕ → Entry → Bool
-belongs n e = isOwner n (streamOf (e .step .act))
+-- whose step it is, by the numbers of 01 and not by the device's own reading: the stream number in it, none in a command under 8 bytes
+unfoldable pub ownerOf : Act → Option ℕ
+ownerOf (command t f) = cond (ltb (length f) 8) none (some (field 4 f 4))
+ownerOf (finish n qt r flags ts) = some n
+ownerOf (drained n) = some n
 
+-- a step belongs to its owner
+unfoldable pub belongs : ℕ → Entry → Bool
+belongs n e = isOwner n (ownerOf (e .step .act))
+
+-- a command of type 0x0101
 abbrev pub isCreation : Act → Bool
 isCreation (command t f) = eqb (word f 0) 0x0101
 isCreation (finish n qt r flags ts) = false
 isCreation (drained n) = false
 
+-- an answer of type 0x0301
 abbrev pub saysFull : Written → Bool
 saysFull w = eqb (word (w .response) 0) 0x0301
 

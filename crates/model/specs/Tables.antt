@@ -62,21 +62,26 @@ module _ (L : Layout) where
       let k = hostRefusal (length t) (length room) (valid t) in
       cond (eqb k 0) (carriedOut (perform (L .decode (take tableWords t)) a (streamOf a)) t room) (untouched k t room)
 
+  -- refusal 1, or 0 and the words of no stream over the used ones
   unfoldable pub freshen : List ℕ → Freshened
   freshen t = cond (ltb (length t) tableWords) (record { refusal = 1; table = t }) (record { refusal = 0; table = L .encode fresh ++ drop tableWords t })
 
   -- Lists of steps: each gets the table that the last one left
 
+  -- a step of a list on a table
   abbrev pub effectOf : List ℕ → Step → Effect
   effectOf t s = effect t (s .act) (s .room)
 
+  -- its entry: what the host gets back
   abbrev pub tableEntry : Step → Effect → Entry
   tableEntry s e = record { step = s; refusal = e .refusal; written = e .written; bytes = take (e .written) (e .room) }
 
-  abbrev pub tableLog : List ℕ → List Step → List Entry
-  tableLog t [] = []
-  tableLog t (s ∷ ss) = tableEntry s (effectOf t s) ∷ tableLog (effectOf t s .table) ss
+  -- the entries of a list
+  abbrev pub tableEntries : List ℕ → List Step → List Entry
+  tableEntries t [] = []
+  tableEntries t (s ∷ ss) = tableEntry s (effectOf t s) ∷ tableEntries (effectOf t s .table) ss
 
+  -- the table at its end
   abbrev pub tableFinal : List ℕ → List Step → List ℕ
   tableFinal t [] = t
   tableFinal t (s ∷ ss) = tableFinal (effectOf t s .table) ss

@@ -28,6 +28,7 @@ goodState created = true
 goodState (queued t ts) = u32 t && u64 ts
 goodState dequeued = true
 
+-- a free slot, or a resource number and its state
 abbrev pub goodSlot : Slot → Bool
 goodSlot free = true
 goodSlot (resource r p) = u32 r && goodState p
@@ -38,6 +39,7 @@ distinctSlots [] = true
 distinctSlots (free ∷ s) = distinctSlots s
 distinctSlots (resource r p ∷ s) = not (present r s) && distinctSlots s
 
+-- sixteen good slots, no number twice
 abbrev pub goodSlots : List Slot → Bool
 goodSlots s = eqb (length s) queueSlots && (allOf goodSlot s && distinctSlots s)
 
@@ -45,13 +47,16 @@ goodSlots s = eqb (length s) queueSlots && (allOf goodSlot s && distinctSlots s)
 abbrev pub goodQueue : Queue → Bool
 goodQueue q = goodSlots (q .slots) && (not (badExtent (q .width)) && (not (badExtent (q .height)) && u32 (q .rate)))
 
+-- any ticket
 abbrev pub goodDrain : Option ℕ → Bool
 goodDrain none = true
 goodDrain (some t) = u32 t
 
+-- a coded format, a drain or none, two queues
 abbrev pub goodStream : Stream → Bool
 goodStream b = within (b .format) firstCoded lastCoded && (goodDrain (b .draining) && (goodQueue (b .inputs) && goodQueue (b .outputs)))
 
+-- vacant, or any number and a record
 abbrev pub goodPlace : Place → Bool
 goodPlace vacant = true
 goodPlace (occupied n b) = u32 n && goodStream b
@@ -68,10 +73,12 @@ wellFormed d = eqb (length d) streamPlaces && (allOf goodPlace d && distinctPlac
 
 -- The host's types: a caller cannot lend anything else
 
+-- a ticket and bytes; the five numbers of a finish; a stream number
 abbrev pub goodAct : Act → Bool
 goodAct (command t f) = u32 t && allOf u8 f
 goodAct (finish n qt r flags ts) = u32 n && (u32 qt && (u32 r && (u32 flags && u64 ts)))
 goodAct (drained n) = u32 n
 
+-- and so a list of steps
 abbrev pub goodSteps : List Step → Bool
 goodSteps = allOf (λ (s : Step). goodAct (s .act))

@@ -1,0 +1,91 @@
+-- A creation is answered 'out of memory' only where every place holds a stream.
+use Prim.Native.Nat.{ℕ}
+use native.Mathlib.Omega.{arith}
+use mathlib.Core.Path.{_≡_, refl, sym, ap, _∙_}
+use mathlib.Core.Bool.{Bool, true, false, not, _&&_, and-false}
+use mathlib.Core.Option.{Option, none, some}
+use mathlib.Core.List.{List, [], _∷_}
+use lib.ListN.{length}
+use lib.Dec.{eqb}
+use borrow.Author.Tests.{eqb-true}
+use Rattle.laws.specs.Tests.{within}
+use Rattle.laws.specs.Lists.{allOf, count}
+use Rattle.laws.proofs.Tests.{never, and-left}
+use Rattle.laws.proofs.Lists.{decide, cond-elim}
+use Rattle.field.specs.Field.{field, littleEndian}
+use Rattle.tag.specs.Tag.{createType, createLength, goodTag, tagIn}
+use Rattle.model.specs.Numbers.{streamPlaces, firstCoded, lastCoded}
+use Rattle.model.specs.Device.{Stream, vacant, occupied, Device, newStream, recordOf, noPlace}
+use Rattle.model.specs.Frames.{create, exactly, CommandLine, _is_ofLength_, commandOf, wrongLength, commandType, inMemType, outMemType, codedFormat}
+use Rattle.model.specs.Answers.{invalidOperation, invalidStream, invalidParameter, responseBytes, readFrom}
+use Rattle.model.specs.Replies.{Reply, Request, fail, first}
+use Rattle.model.specs.Commands.{onCreate, onStream, onLine, onCommand}
+use Rattle.model.specs.Steps.{Act, command, finish, drained, Step, serve, Outcome, perform, step, entryOf, isCreation, outOfMemoryAt}
+use Rattle.model.specs.WellFormed.{goodPlace, distinctPlaces, wellFormed}
+use Rattle.model.specs.Promises.{isLive, FullAtEight}
+use Rattle.model.proofs.Lines.{by-type}
+use Rattle.model.proofs.Cases.{step-cases}
+use Rattle.model.proofs.Isolation.{alone, tellsFull}
+
+abbrev Quiet : Reply → Type 0
+Quiet v = tellsFull v ≡ false
+
+-- no other error says so, and where a place is vacant a creation does not
+create-quiet : (c : Request) → Quiet (onCreate alone c)
+unfolding onCreate first readFrom responseBytes littleEndian field
+create-quiet c =
+    let f = c .frame in
+    decide (not (eqb (inMemType f) 0)) (λ e. simp e refl) (λ e₁.
+    decide (not (eqb (outMemType f) 0)) (λ e. simp (e₁, e) refl) (λ e₂.
+    decide (not (within (codedFormat f) firstCoded lastCoded)) (λ e. simp (e₁, e₂, e) refl) (λ e₃.
+    decide (not (goodTag (tagIn f))) (λ e. simp (e₁, e₂, e₃, e) refl) (λ e₄. simp (e₁, e₂, e₃, e₄) refl))))
+
+stream-quiet : (c : Request) (self : Option Stream) → Quiet (onStream alone c create self)
+unfolding readFrom responseBytes littleEndian field
+stream-quiet c none = create-quiet c
+stream-quiet c (some b) = refl
+
+length-quiet : (c : Request) → Quiet (fail c invalidParameter)
+unfolding readFrom responseBytes littleEndian field
+length-quiet c = refl
+
+unknown-quiet : (c : Request) → Quiet (fail c invalidOperation)
+unfolding readFrom responseBytes littleEndian field
+unknown-quiet c = refl
+
+line-quiet : (c : Request) (l : CommandLine) → l .command ≡ create → Quiet (onLine alone c (some l))
+line-quiet c l e =
+    decide (wrongLength (l .length) (length (c .frame))) (λ w. simp w (length-quiet c)) (λ w. simp (w, e) (stream-quiet c (c .self)))
+
+command-quiet : (c : Request) (ty : ℕ) → (eqb ty 0x0101 && tellsFull (onLine alone c (commandOf ty))) ≡ false
+command-quiet c =
+    by-type (λ ty l. (eqb ty 0x0101 && tellsFull (onLine alone c l)) ≡ false) (
+      line-quiet c (createType is create ofLength exactly createLength) refl,
+      (refl, (refl, (refl, (refl, (refl, (refl, (refl, (refl, (refl, (refl, (refl, tt))))))))))),
+    )
+    (λ ty. ap (λ (b : Bool). eqb ty 0x0101 && b) (unknown-quiet c) ∙ and-false (eqb ty 0x0101))
+
+act-quiet : (n : ℕ) (self : Option Stream) (a : Act) → (isCreation a && tellsFull (serve alone n self a)) ≡ false
+unfolding serve onCommand
+act-quiet n self (command t f) = command-quiet (record { stream = n; ticket = t; frame = f; self = self }) (commandType f)
+act-quiet n self (finish m qt r flags ts) = refl
+act-quiet n self (drained m) = refl
+
+-- so a step that says so found no place
+
+all-live : (d : Device) → noPlace d ≡ true → count isLive d ≡ length d
+all-live [] h = refl
+all-live (vacant ∷ d) h = never (sym h)
+all-live (occupied n b ∷ d) h = omega (arith, all-live d h)
+
+eight : (d : Device) → wellFormed d ≡ true → length d ≡ 8
+unfolding wellFormed
+eight d h = eqb-true (length d) streamPlaces (and-left (eqb (length d) streamPlaces) (allOf goodPlace d && distinctPlaces d) h)
+
+pub full-at-eight : FullAtEight
+unfolding outOfMemoryAt readFrom
+full-at-eight d s h =
+    step-cases (λ (o : Outcome). outOfMemoryAt (entryOf s o) ≡ true → count isLive d ≡ 8) d s
+    (λ k e. never (sym e ∙ and-false (isCreation (s .act))))
+    (λ n _ e. decide (noPlace d) (λ f. all-live d f ∙ eight d h)
+    (λ f. never (sym e ∙ ap (λ (b : Bool). isCreation (s .act) && tellsFull (serve (record { full = b }) n (recordOf n d) (s .act))) f ∙ act-quiet n (recordOf n d) (s .act))))
