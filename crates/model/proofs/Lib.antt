@@ -1,4 +1,5 @@
 pub mod TenCases
+pub mod Pins
 pub mod Slots
 pub mod Walk
 pub mod Lines

@@ -12,3 +12,4 @@ pub mod Promises
 pub mod Ledger
 pub mod Condition3
 pub mod Cases
+pub mod Pins
