@@ -1,0 +1,114 @@
+-- The bytes that the writers store are those of the model's answers, each with its length.
+use mathlib.Core.Path.{_≡_, refl, sym, ap, _∙_}
+use mathlib.Core.Option.{some}
+use mathlib.Core.List.{List, [], _∷_, _++_, append-assoc, append-nil}
+use Prim.Native.Nat.{ℕ, _+_, _*_, _/_}
+use native.Mathlib.Omega.{arith}
+use lib.ListN.{length, length-append}
+use lib.Seq.{sets}
+use Rattle.laws.specs.Stores.{Wrote}
+use Rattle.laws.proofs.Stores.{sets-next, sets-four}
+use Rattle.field.specs.Field.{littleEndian}
+use Rattle.field.proofs.Laws.{length-littleEndian}
+use Rattle.model.specs.Device.{QueueType, input, output, Queue, Stream, queueOf}
+use Rattle.model.specs.Answers.{code, Response, success, bufferDone, drainDone, parameters, failure, words, responseBytes, bytesOf}
+use Rattle.model.specs.Commands.{planes, parameterWords}
+use Rattle.answer.specs.Answer.{answerTo, plainBytes, plainCode, pairs, SidesOf, NumbersOf}
+
+-- words have four bytes each, and words after words are words
+pub length-words : (ws : List ℕ) → length (words ws) ≡ 4 * length ws
+length-words [] = refl
+length-words (w ∷ ws) = rw (length-append, length-littleEndian 4 w, length-words ws) (omega arith)
+
+pub words-append : (xs ys : List ℕ) → words (xs ++ ys) ≡ words xs ++ words ys
+words-append [] ys = refl
+words-append (x ∷ xs) ys = rw (append-assoc, words-append xs ys)
+
+-- two and four runs of words, one after the other
+pub sets-words : (d : List ℕ) {d₁ d₂ : List ℕ} (at n : ℕ) (a b : List ℕ) → 4 * length a ≡ n → d₁ ≡ sets d at (words a) → d₂ ≡ sets d₁ (at + n) (words b) → d₂ ≡ sets d at (words (a ++ b))
+sets-words d at n a b h p q = q ∙ rw (p, words-append a b) (sets-next d at n (words a) (words b) (length-words a ∙ h))
+
+pub sets-groups : (d : List ℕ) {d₁ d₂ d₃ d₄ : List ℕ} (at : ℕ) (a b c e : List ℕ) → length a ≡ 4 → length b ≡ 4 → length c ≡ 4
+    → d₁ ≡ sets d at (words a) → d₂ ≡ sets d₁ (at + 16) (words b) → d₃ ≡ sets d₂ (at + 32) (words c) → d₄ ≡ sets d₃ (at + 48) (words e)
+    → d₄ ≡ sets d at (words (a ++ (b ++ (c ++ e))))
+sets-groups d at a b c e x y z p q r s =
+    let k : length (words a) ≡ 16 = length-words a ∙ (omega arith) in
+    let l : length (words b) ≡ 16 = length-words b ∙ (omega arith) in
+    let m : length (words c) ≡ 16 = length-words c ∙ (omega arith) in
+    sets-four d at 16 32 48 (words a) (words b) (words c) (words e) k (omega arith) (omega arith) p q r s
+    ∙ ap (sets d at) (sym (words-append a (b ++ (c ++ e)) ∙ ap (λ (l : List ℕ). words a ++ l) (words-append b (c ++ e) ∙ ap (λ (l : List ℕ). words b ++ l) (words-append c e))))
+
+-- Plain answers
+
+pub plain-length : (ticket code stream : ℕ) → length (plainBytes ticket code stream) ≡ 16
+unfolding plainBytes
+plain-length ticket code stream = length-words (ticket ∷ 8 ∷ code ∷ stream ∷ [])
+
+-- plain success, a drain that ended and an error are what `put_plain` writes of their code
+pub plain-answer : (ticket stream k : ℕ) (p : Response) → plainCode p ≡ some k → plainBytes ticket k stream ≡ bytesOf (answerTo ticket stream p ∷ [])
+unfolding plainBytes responseBytes littleEndian
+plain-answer ticket stream k success e = let h : k ≡ 0x0200 = cc in rw h
+plain-answer ticket stream k (bufferDone q ts flags) e = absurd (let z : _≡_ {A = ℕ} 0 1 = cc in omega arith)
+plain-answer ticket stream k drainDone e = let h : k ≡ 0x0200 = cc in rw h
+plain-answer ticket stream k (parameters ws) e = absurd (let z : _≡_ {A = ℕ} 0 1 = cc in omega arith)
+plain-answer ticket stream k (failure x) e = let h : k ≡ code x = cc in rw h
+
+pub wrote-plain : {d e : List ℕ} {at r : ℕ} (ticket stream k : ℕ) (p : Response) → plainCode p ≡ some k → Wrote d e at r (plainBytes ticket k stream) → Wrote d e at r (bytesOf (answerTo ticket stream p ∷ []))
+wrote-plain ticket stream k p h w = rw (plain-answer ticket stream k p h) at w
+
+-- Answers to buffers
+
+pub buffer-length : (ticket stream ts flags : ℕ) (q : QueueType) → length (bytesOf (answerTo ticket stream (bufferDone q ts flags) ∷ [])) ≡ 32
+unfolding responseBytes littleEndian
+buffer-length ticket stream ts flags q = refl
+
+buffer-answer : (ticket stream ts flags : ℕ) (q : QueueType)
+    → words (ticket ∷ 24 ∷ 0x0200 ∷ stream ∷ []) ++ (littleEndian 8 ts ++ (littleEndian 4 flags ++ littleEndian 4 0)) ≡ bytesOf (answerTo ticket stream (bufferDone q ts flags) ∷ [])
+unfolding responseBytes littleEndian
+buffer-answer ticket stream ts flags q = refl
+
+pub sets-buffer : (d : List ℕ) {d₁ d₂ d₃ d₄ : List ℕ} (at ticket stream ts flags : ℕ) (q : QueueType)
+    → d₁ ≡ sets d at (words (ticket ∷ 24 ∷ 0x0200 ∷ stream ∷ [])) → d₂ ≡ sets d₁ (at + 16) (littleEndian 8 ts) → d₃ ≡ sets d₂ (at + 24) (littleEndian 4 flags) → d₄ ≡ sets d₃ (at + 28) (littleEndian 4 0)
+    → d₄ ≡ sets d at (bytesOf (answerTo ticket stream (bufferDone q ts flags) ∷ []))
+sets-buffer d at ticket stream ts flags q x y z w =
+    let head = ticket ∷ 24 ∷ 0x0200 ∷ stream ∷ [] in
+    let h : length (words head) ≡ 16 = length-words head in
+    let l : length (littleEndian 8 ts) ≡ 8 = length-littleEndian 8 ts in
+    let m : length (littleEndian 4 flags) ≡ 4 = length-littleEndian 4 flags in
+    sets-four d at 16 24 28 (words head) (littleEndian 8 ts) (littleEndian 4 flags) (littleEndian 4 0) h (omega arith) (omega arith) x y z w
+    ∙ ap (sets d at) (buffer-answer ticket stream ts flags q)
+
+-- Answers to a get
+
+-- the planes of an input queue and of an output queue
+pub input-planes : {q : Queue} {queue width height : ℕ} (t : QueueType) → SidesOf t q queue width height → queue ≡ 0x100 → 1 ∷ pairs 262144 0 0 0 ≡ planes t q
+unfolding pairs
+input-planes input s e = refl
+input-planes output s e = absurd (omega arith)
+
+pub output-planes : {q : Queue} {queue width height : ℕ} (t : QueueType) → SidesOf t q queue width height → (queue ≡ 0x100 → ⊥) → 2 ∷ pairs (width * height) width (width * height / 2) width ≡ planes t q
+unfolding pairs
+output-planes input s e = absurd (e (s .isQueue))
+output-planes output s e = rw (s .isWidth, s .isHeight)
+
+-- 28 words in either queue, 120 bytes with the answer's type and the stream number
+words-answer : (ticket stream : ℕ) (ws : List ℕ) → length ws ≡ 28 → words (ticket ∷ 120 ∷ 0x0203 ∷ stream ∷ ws) ≡ bytesOf (answerTo ticket stream (parameters ws) ∷ [])
+unfolding responseBytes
+words-answer ticket stream ws h =
+    let n : length (words (0x0203 ∷ stream ∷ ws)) ≡ 120 = length-words (0x0203 ∷ stream ∷ ws) ∙ (omega arith) in
+    rw (append-nil, n)
+
+count : (q : QueueType) (b : Stream) → length (parameterWords q b) ≡ 28
+unfolding parameterWords
+count input b = refl
+count output b = refl
+
+pub parameters-answer : {queue format width height rate : ℕ} (ticket stream : ℕ) (q : QueueType) (b : Stream) → NumbersOf q b queue format width height rate
+    → words (ticket ∷ 120 ∷ 0x0203 ∷ stream ∷ queue ∷ format ∷ width ∷ height ∷ 1 ∷ 16 ∷ 0 ∷ 0 ∷ width ∷ height ∷ rate ∷ planes q (queueOf q b)) ≡ bytesOf (answerTo ticket stream (parameters (parameterWords q b)) ∷ [])
+unfolding parameterWords
+parameters-answer ticket stream q b s =
+    rw (s .sides .isQueue, s .isFormat, s .sides .isWidth, s .sides .isHeight, s .isRate) (words-answer ticket stream (parameterWords q b) (count q b))
+
+pub parameters-length : (ticket stream : ℕ) (q : QueueType) (b : Stream) → length (bytesOf (answerTo ticket stream (parameters (parameterWords q b)) ∷ [])) ≡ 128
+parameters-length ticket stream q b =
+    rw (← (words-answer ticket stream (parameterWords q b) (count q b))) (length-words (ticket ∷ 120 ∷ 0x0203 ∷ stream ∷ parameterWords q b) ∙ (omega (arith, count q b)))

@@ -1,0 +1,73 @@
+-- `answer::put_parameters` meets its contract: four runs of words, by `sets-groups`, are the answer's bytes.
+use mathlib.Core.List.{[], _∷_}
+use mathlib.Core.Path.{_∙_, refl, ap}
+use lib.Seq.{sets}
+use denote.Ref.{now}
+use borrow.Author.Needs.{needs}
+use Rattle.laws.proofs.Stores.{wrote-sets}
+use Rattle.model.specs.Device.{queueOf}
+use Rattle.model.specs.Answers.{parameters, bytesOf}
+use Rattle.model.specs.Commands.{planes, parameterWords}
+use Rattle.answer.proofs.Laws.{sets-groups, parameters-length, parameters-answer}
+use Rattle.answer.specs.Answer.{answerTo}
+use Rattle.answer.proofs.put_parameters.Statement.{statement}
+use Rattle.answer.proofs.put_parameters.Tie as tie
+
+put-words-requires : tie.Need-put-words-requires
+put-words-requires c κs = search needs
+
+add-put-words : tie.Need-add-put-words
+add-put-words c = search needs
+
+put-words-requires-2 : tie.Need-put-words-requires-2
+put-words-requires-2 c κs = search needs
+
+add-put-words-2 : tie.Need-add-put-words-2
+add-put-words-2 c = search needs
+
+put-words-requires-3 : tie.Need-put-words-requires-3
+put-words-requires-3 c κs = search needs
+
+add-put-planes : tie.Need-add-put-planes
+add-put-planes c = search needs
+
+put-planes-requires : tie.Need-put-planes-requires
+put-planes-requires c κs = search needs
+
+add-result : tie.Need-add-result
+add-result c = search needs
+
+same-length : tie.Need-same-length
+same-length c = search needs
+
+returns : tie.Need-returns
+returns c = let c₄ = c .before .before in
+    let c₃ = c₄ .before .before .before .before in
+    let c₂ = c₃ .before .before .before .before in
+    let c₁ = c₂ .before .before .before .before in
+    let a = c₁ .before .before .before .args in (
+      refl,
+      λ q b s.
+          wrote-sets (a .at) 128 (bytesOf (answerTo (a .ticket) (a .stream) (parameters (parameterWords q b)) ∷ [])) (parameters-length (a .ticket) (a .stream) q b)
+          (sets-groups (now (a .out)) (a .at) (a .ticket ∷ 120 ∷ 0x0203 ∷ a .stream ∷ [])
+          (a .queue ∷ a .format ∷ a .width ∷ a .height ∷ [])
+          (1 ∷ 16 ∷ 0 ∷ 0 ∷ [])
+          (a .width ∷ a .height ∷ a .rate ∷ planes q (queueOf q b))
+          refl refl refl (c₁ .put-words .ensures) (c₂ .put-words2 .ensures) (c₃ .put-words3 .ensures) (c₄ .put-planes .ensures q (queueOf q b) (s .sides))
+          ∙ ap (sets (now (a .out)) (a .at)) (parameters-answer (a .ticket) (a .stream) q b s)),
+    )
+
+pub put-parameters-spec : {M : Type 1} → statement M
+put-parameters-spec =
+    tie.close
+    (tie.spec
+    put-words-requires
+    add-put-words
+    put-words-requires-2
+    add-put-words-2
+    put-words-requires-3
+    add-put-planes
+    put-planes-requires
+    add-result
+    same-length
+    returns)

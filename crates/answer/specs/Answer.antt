@@ -1,0 +1,42 @@
+-- What the writers' arguments stand for in the model.
+use mathlib.Core.Path.{_≡_}
+use mathlib.Core.Option.{Option, none, some}
+use mathlib.Core.List.{List, [], _∷_}
+use Prim.Native.Nat.{ℕ}
+use lib.ListN.{replicate}
+use Rattle.model.specs.Device.{QueueType, Queue, Stream, queueOf}
+use Rattle.model.specs.Frames.{queueNumber}
+use Rattle.model.specs.Answers.{code, Response, success, bufferDone, drainDone, parameters, failure, Answer, words}
+use Rattle.model.specs.Commands.{formatOf}
+
+-- a response to a stream, under a ticket
+abbrev pub answerTo : ℕ → ℕ → Response → Answer
+answerTo ticket stream response = record { ticket = ticket; stream = stream; response = response }
+
+-- the bytes of an answer that is a code and the stream number
+unfoldable pub plainBytes : ℕ → ℕ → ℕ → List ℕ
+plainBytes ticket code stream = words (ticket ∷ 8 ∷ code ∷ stream ∷ [])
+
+-- the code of a response that has nothing but a code and the stream number
+abbrev pub plainCode : Response → Option ℕ
+plainCode success = some 0x0200
+plainCode (bufferDone q timestamp flags) = none
+plainCode drainDone = some 0x0200
+plainCode (parameters ws) = none
+plainCode (failure e) = some (code e)
+
+-- 8 pairs of size and stride, of which the last six are 0
+unfoldable pub pairs : ℕ → ℕ → ℕ → ℕ → List ℕ
+pairs size0 stride0 size1 stride1 = size0 ∷ stride0 ∷ size1 ∷ stride1 ∷ replicate 12 0
+
+-- the numbers are those of the queue q of type t
+pub record SidesOf (t : QueueType) (q : Queue) (queue width height : ℕ) : Type 0 where
+  pub isQueue : queue ≡ queueNumber t
+  pub isWidth : width ≡ q .width
+  pub isHeight : height ≡ q .height
+
+-- the numbers are those of the queue of type t of the stream b
+pub record NumbersOf (t : QueueType) (b : Stream) (queue format width height rate : ℕ) : Type 0 where
+  pub sides : SidesOf t (queueOf t b) queue width height
+  pub isFormat : format ≡ formatOf t b
+  pub isRate : rate ≡ queueOf t b .rate

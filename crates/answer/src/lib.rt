@@ -1,0 +1,115 @@
+// Writers of answers into a lent room: ticket, byte count, response. Each returns the place after what it wrote.
+ghost use mathlib.Core.Path.{_≡_};
+ghost use mathlib.Core.List.{[], _∷_};
+ghost use Prim.Native.Nat.{_+_, _≤_};
+ghost use lib.ListN.{length};
+ghost use lib.Seq.{sets};
+ghost use Rattle.laws.specs.Stores.{Wrote};
+ghost use Rattle.model.specs.Device.{QueueType, Queue, Stream};
+ghost use Rattle.model.specs.Answers.{bufferDone, parameters, words, bytesOf};
+ghost use Rattle.model.specs.Commands.{planes, parameterWords};
+ghost use Rattle.answer.specs.Answer.{answerTo, plainBytes, pairs, SidesOf, NumbersOf};
+
+// The type of a plain success, also of a buffer's answer, and of the answer to a get.
+const OK: u32 = 0x0200;
+
+const PARAMETERS: u32 = 0x0203;
+
+// The queue type of an input queue; every other number here is an output queue's.
+const INPUT: u32 = 0x0100;
+
+// The buffers that a queue holds at least and at most.
+const MINIMUM: u32 = 1;
+
+const MAXIMUM: u32 = 16;
+
+// The size of the one plane of an input queue.
+const INPUT_SIZE: u32 = 262144;
+
+// Writes an answer that is a code and the stream number, 16 bytes: plain success, a drain that ended, an error.
+pub fn put_plain(out: &mut [u8], at: usize, ticket: u32, code: u32, stream: u32) -> usize
+    requires { ⌜ at + 16 ≤ length (now out) ⌝ }
+    ensures { λ r. ⌜ Wrote (now (out .entry)) (now (out .exit)) at r (plainBytes ticket code stream) ⌝ }
+{
+    put_words(out, at, ticket, 8, code, stream);
+    at + 16
+}
+
+// Writes the answer to a buffer of either queue, 32 bytes.
+pub fn put_buffer(
+    out: &mut [u8],
+    at: usize,
+    ticket: u32,
+    stream: u32,
+    timestamp: u64,
+    flags: u32,
+) -> usize
+    requires { ⌜ at + 32 ≤ length (now out) ⌝ }
+    ensures { λ r. ⌜ ((q : QueueType) → Wrote (now (out .entry)) (now (out .exit)) at r (bytesOf (answerTo ticket stream (bufferDone q timestamp flags) ∷ []))) ⌝ }
+{
+    put_words(out, at, ticket, 24, OK, stream);
+    field::put_u64(out, at + 16, timestamp);
+    field::put_u32(out, at + 24, flags);
+    field::put_u32(out, at + 28, 0);
+    at + 32
+}
+
+// Writes the answer to a get, 128 bytes, from a queue's number and what is kept of its parameters.
+pub fn put_parameters(
+    out: &mut [u8],
+    at: usize,
+    ticket: u32,
+    stream: u32,
+    queue: u32,
+    format: u32,
+    width: u32,
+    height: u32,
+    rate: u32,
+) -> usize
+    requires { ⌜ (at + 128 ≤ length (now out)) × (width ≤ 4096) × (height ≤ 4096) ⌝ }
+    ensures next { λ r. ⌜ r ≡ at + 128 ⌝ }
+    ensures whole { λ r. ⌜ ((q : QueueType) (b : Stream) → NumbersOf q b queue format width height rate → Wrote (now (out .entry)) (now (out .exit)) at r (bytesOf (answerTo ticket stream (parameters (parameterWords q b)) ∷ []))) ⌝ }
+{
+    put_words(out, at, ticket, 120, PARAMETERS, stream);
+    put_words(out, at + 16, queue, format, width, height);
+    put_words(out, at + 32, MINIMUM, MAXIMUM, 0, 0);
+    put_planes(out, at + 48, queue, width, height, rate);
+    at + 128
+}
+
+// Stores the end of a queue's parameters, 80 bytes: width and height of the crop, rate, plane count, 8 pairs of size and stride.
+fn put_planes(out: &mut [u8], at: usize, queue: u32, width: u32, height: u32, rate: u32)
+    requires { ⌜ (at + 80 ≤ length (now out)) × (width ≤ 4096) × (height ≤ 4096) ⌝ }
+    ensures { λ _. ⌜ ((t : QueueType) (q : Queue) → SidesOf t q queue width height → now (out .exit) ≡ sets (now (out .entry)) at (words (width ∷ height ∷ rate ∷ planes t q))) ⌝ }
+{
+    if queue == INPUT {
+        put_words(out, at, width, height, rate, 1);
+        put_pairs(out, at + 16, INPUT_SIZE, 0, 0, 0);
+        return;
+    }
+    let size = width * height;
+    put_words(out, at, width, height, rate, 2);
+    put_pairs(out, at + 16, size, width, size / 2, width);
+}
+
+// Stores 8 pairs of size and stride, 64 bytes, of which the last six are 0.
+fn put_pairs(out: &mut [u8], at: usize, size0: u32, stride0: u32, size1: u32, stride1: u32)
+    requires { ⌜ at + 64 ≤ length (now out) ⌝ }
+    ensures { λ _. ⌜ now (out .exit) ≡ sets (now (out .entry)) at (words (pairs size0 stride0 size1 stride1)) ⌝ }
+{
+    put_words(out, at, size0, stride0, size1, stride1);
+    put_words(out, at + 16, 0, 0, 0, 0);
+    put_words(out, at + 32, 0, 0, 0, 0);
+    put_words(out, at + 48, 0, 0, 0, 0);
+}
+
+// Stores four words, 16 bytes.
+fn put_words(out: &mut [u8], at: usize, a: u32, b: u32, c: u32, d: u32)
+    requires { ⌜ at + 16 ≤ length (now out) ⌝ }
+    ensures { λ _. ⌜ now (out .exit) ≡ sets (now (out .entry)) at (words (a ∷ b ∷ c ∷ d ∷ [])) ⌝ }
+{
+    field::put_u32(out, at, a);
+    field::put_u32(out, at + 4, b);
+    field::put_u32(out, at + 8, c);
+    field::put_u32(out, at + 12, d);
+}

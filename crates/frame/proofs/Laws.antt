@@ -1,0 +1,119 @@
+-- Laws of the definitions, each in the form that a step of the code wants.
+use mathlib.Core.Path.{_≡_, refl, sym, ap, _∙_}
+use mathlib.Core.Bool.{Bool, true, false, not, _&&_, _||_, true≢false, false≢true}
+use mathlib.Core.List.{List, [], _∷_}
+use mathlib.Core.Option.{Option, none, some}
+use Prim.Native.Nat.{ℕ, zero, suc, _+_, _*_, _-_, _^_, _≤_, _<_}
+use native.Mathlib.Numerals.{add-one}
+use native.Mathlib.Omega.{arith}
+use lib.Dec.{leb, ltb, eqb}
+use lib.ListN.{length, getD, take, drop}
+use lib.Seq.{drop-drop, take-suc}
+use borrow.Author.Tests.{le-leb, lt-ltb, le-ltb, not-true, not-false, ne-eqb, eq-eqb, leb-true, leb-false}
+use Rattle.laws.specs.Tests.{within}
+use Rattle.laws.specs.Lists.{total}
+use Rattle.laws.proofs.Tests.{leb-same}
+use Rattle.laws.proofs.Lists.{decide, total-append}
+use Rattle.tag.specs.Tag.{nulAt, goodTag, tagLength}
+use Rattle.model.specs.Frames.{word, wordsAt, numEntries, entryAddr, entryLength, entryBytes, commandOf}
+use Rattle.model.specs.Answers.{ErrorCode}
+use Rattle.frame.specs.Meant.{errorOf}
+use Rattle.model.specs.Commands.{badEntry}
+use Rattle.frame.specs.Frame.{goodEntry}
+
+-- Tests on a number that was read, and tests that a callee made
+
+pub same-test : {r n m : ℕ} → r ≡ n → r ≡ m → eqb n m ≡ true
+same-test {r} {n} {m} p q = eq-eqb n m (sym p ∙ q)
+
+pub other-test : {r n m : ℕ} → r ≡ n → (r ≡ m → ⊥) → eqb n m ≡ false
+other-test {r} {n} {m} p q = ne-eqb n m (λ e. q (p ∙ e))
+
+pub passed : {r t : Bool} → r ≡ t → not r ≡ false → t ≡ true
+passed {r} p q = sym p ∙ not-false r q
+
+pub refused : {r t : Bool} → r ≡ t → not r ≡ true → t ≡ false
+refused {r} p q = sym p ∙ not-true r q
+
+-- a number from lo to hi, by the code's two tests, and one that is not above a bound
+pub range-test : (x lo hi : ℕ) → lo ≤ x → leb x hi ≡ within x lo hi
+unfolding within
+range-test x lo hi h = rw (le-leb lo x h)
+
+pub leb-not-ltb : (a b : ℕ) → leb a b ≡ not (ltb b a)
+leb-not-ltb a b = decide (leb a b) (λ e. rw (e, le-ltb b a (leb-true a b e))) (λ e. rw (e, lt-ltb b a (leb-false a b e)))
+
+-- a tag of which the length was found
+pub tag-found : (t : List ℕ) (n : ℕ) → some n ≡ tagLength t → true ≡ goodTag t
+unfolding tagLength
+tag-found t n e = decide (goodTag t) (λ g. sym g) (λ g. absurd (let z : _≡_ {A = ℕ} 0 1 = let w : some n ≡ none = rw g at e in cc in omega arith))
+
+pub tag-missed : (t : List ℕ) → none ≡ tagLength t → false ≡ goodTag t
+unfolding tagLength
+tag-missed t e = decide (goodTag t) (λ g. absurd (let z : _≡_ {A = ℕ} 0 1 = let w : none ≡ some (nulAt t) = rw g at e in cc in omega arith)) (λ g. sym g)
+
+-- a type that is not equal to n, the way round that the model's lines have it
+pub unlike : (k n : ℕ) → (k ≡ n → ⊥) → eqb n k ≡ false
+unlike k n h = ne-eqb n k (λ e. h (sym e))
+
+-- a type that is equal to k has the line of k
+pub of-type : {r : Option ErrorCode} {kind k : ℕ} (len : ℕ) → kind ≡ k → r ≡ errorOf (commandOf k) len → r ≡ errorOf (commandOf kind) len
+of-type len e h = rw e h
+
+-- Sums of entry counts
+
+total-more : (l : List ℕ) (i : ℕ) → i < length l → total (take (i + 1) l) ≡ total (take i l) + getD l i 0
+total-more l i h = rw (add-one i, take-suc l i 0 h) (total-append (take i l) (getD l i 0 ∷ []) ∙ (omega arith))
+
+words-length : (f : List ℕ) (at k : ℕ) → length (wordsAt f at k) ≡ k
+words-length f at zero = refl
+words-length f at (suc k) = ap suc (words-length f (at + 4) k)
+
+word-at : (f : List ℕ) (at k i : ℕ) → i < k → getD (wordsAt f at k) i 0 ≡ word f (at + 4 * i)
+word-at f at zero i h = absurd (omega arith)
+word-at f at (suc k) zero h = ap (word f) (omega arith)
+word-at f at (suc k) (suc i) h = word-at f (at + 4) k i (omega arith) ∙ ap (word f) (omega arith)
+
+-- one count more, which stands 48 bytes behind the start of the payload
+pub sum-more : (f : List ℕ) (i : ℕ) → i < 8 → total (take (i + 1) (numEntries f)) ≡ total (take i (numEntries f)) + word f (8 + (48 + 4 * i))
+sum-more f i h =
+    total-more (wordsAt f 56 8) i h
+    ∙ ap (λ (v : ℕ). total (take i (numEntries f)) + v) (word-at f 56 8 i h ∙ ap (word f) (omega arith))
+
+-- Entries
+
+-- the code's test, which does not wrap
+pub entry-test : (e : List ℕ) (address len : ℕ) → address ≡ entryAddr e → len ≡ entryLength e → address < 2 ^ 64 → (len ≡ 0 → ⊥) → leb (len - 1) (18446744073709551615 - address) ≡ goodEntry e
+unfolding goodEntry
+entry-test e address len p q h k =
+    rw (← p, ← q, ne-eqb len 0 k)
+    (leb-same (len - 1) (18446744073709551615 - address) (address + len) (2 ^ 64) (λ l. omega arith) (λ l. omega arith) ∙ leb-not-ltb (address + len) (2 ^ 64))
+
+either : (a b r : Bool) → not a && not b ≡ false → (a || (b || r)) ≡ true
+either true b r h = refl
+either false true r h = refl
+either false false r h = absurd (true≢false h)
+
+neither : (a b r : Bool) → not a && not b ≡ true → (a || (b || r)) ≡ r
+neither true b r h = absurd (false≢true h)
+neither false true r h = absurd (false≢true h)
+neither false false r h = refl
+
+-- the first of k entries, which stand from `at` on: a bad one decides, and behind a good one the others do
+module _ (es : List ℕ) (at : ℕ) where
+  pub bad-here : (k : ℕ) → 0 < k → goodEntry (drop at es) ≡ false → badEntry k (drop at es) ≡ true
+  unfolding goodEntry
+  bad-here zero h g = absurd (omega arith)
+  bad-here (suc k) h g =
+      let e = drop at es in
+      either (eqb (entryLength e) 0) (ltb (2 ^ 64) (entryAddr e + entryLength e)) (badEntry k (drop entryBytes e)) g
+
+  pub bad-later : (k : ℕ) → 0 < k → goodEntry (drop at es) ≡ true → badEntry k (drop at es) ≡ badEntry (k - 1) (drop (at + 16) es)
+  unfolding goodEntry
+  bad-later zero h g = absurd (omega arith)
+  bad-later (suc k) h g =
+      let e = drop at es in
+      let others : k ≡ suc k - 1 = omega arith in
+      neither (eqb (entryLength e) 0) (ltb (2 ^ 64) (entryAddr e + entryLength e)) (badEntry k (drop entryBytes e)) g
+      ∙ ap (badEntry k) (drop-drop 16 at es)
+      ∙ ap (λ (n : ℕ). badEntry n (drop (at + 16) es)) others

@@ -1,0 +1,22 @@
+-- `frame::extent_good` meets its contract: a chain of tests.
+use mathlib.Core.Path.{refl}
+use borrow.Author.Needs.{needs}
+use Rattle.laws.proofs.Tests.{and-fails, and-holds}
+use Rattle.frame.specs.Frame.{goodExtent}
+use Rattle.frame.proofs.Laws.{passed, refused}
+use Rattle.frame.proofs.extent_good.Statement.{statement}
+use Rattle.frame.proofs.extent_good.Tie as tie
+
+in-range-requires : tie.Need-in-range-requires
+in-range-requires c κs = search needs
+
+returns : tie.Need-returns
+unfolding goodExtent
+returns c = and-fails _ _ (refused (c .before .in-range .ensures) (c .if1 .taken))
+
+returns-2 : tie.Need-returns-2
+unfolding goodExtent
+returns-2 c = and-holds _ _ _ (passed (c .before .in-range .ensures) (c .if1 .left)) refl
+
+pub extent-good-spec : {M : Type 1} → statement M
+extent-good-spec = tie.close (tie.spec in-range-requires returns returns-2)

@@ -1,0 +1,21 @@
+-- The full device keeps the rules: computed on the device. Its table is then valid, as that of every well-formed device.
+use mathlib.Core.Path.{_≡_, refl}
+use mathlib.Core.Bool.{true}
+use Rattle.laws.specs.Tests.{within}
+use Rattle.model.specs.WellFormed.{u32, u64, wellFormed}
+use Rattle.model.proofs.Tables.{words-valid}
+use Rattle.table.specs.Full.{fullDevice, FullIsValid}
+use Rattle.table.specs.Layout.{layout}
+use Rattle.table.proofs.Theorems.{meets-laws}
+
+full-well : wellFormed fullDevice ≡ true
+unfolding wellFormed u32 u64 within
+full-well = refl
+
+pub full-is-valid : FullIsValid
+full-is-valid = record {
+  places = refl;
+  slots = refl;
+  well = full-well;
+  table = λ behind. words-valid layout meets-laws behind fullDevice full-well;
+}

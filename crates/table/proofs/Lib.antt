@@ -1,0 +1,9 @@
+pub mod Records
+pub mod Theorems
+pub mod Full
+pub mod Bridge
+pub mod Heads
+pub mod Looked
+pub mod Distinct
+pub mod Stands
+pub mod Good

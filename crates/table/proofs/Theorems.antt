@@ -1,0 +1,206 @@
+-- The statements of specs/Layout, proved: the layout is lawful, valid is exactly the tables of well-formed devices, and condition 3 holds over tables.
+use mathlib.Core.Path.{_≡_, refl, sym, ap, ap₂, _∙_}
+use mathlib.Core.Bool.{Bool, true, false, not, _&&_}
+use mathlib.Core.Option.{Option, none, some}
+use mathlib.Core.List.{List, [], _∷_, _++_}
+use Prim.Native.Nat.{ℕ, zero, suc, _+_, _*_, _/_, _%_, _^_, _<_}
+use native.Mathlib.Nat.{mul-zero, mul-suc}
+use native.Mathlib.Omega.{arith}
+use lib.ListN.{length, replicate, take}
+use lib.Seq.{take-take}
+use lib.Dec.{eqb}
+use borrow.Author.Tests.{eqb-true, ltb-true, lt-ltb, not-true, not-false}
+use Rattle.laws.specs.Lists.{allOf, same}
+use Rattle.laws.specs.Tests.{within}
+use Rattle.laws.specs.Parts.{zeros, pieces}
+use Rattle.laws.proofs.Tests.{both, and-left, and-right, within-bounds}
+use Rattle.laws.proofs.Lists.{all-append, all-implied}
+use Rattle.laws.proofs.Parts.{zeros-append}
+use Rattle.laws.proofs.Same.{same-refl, same-true}
+use Rattle.model.specs.Numbers.{tableWords, firstCoded, lastCoded}
+use Rattle.model.specs.Device.{created, queued, dequeued, Slot, free, resource, Queue, Stream, Place, vacant, occupied, Device, fresh}
+use Rattle.model.specs.Commands.{badExtent}
+use Rattle.model.specs.WellFormed.{u32, u64, goodSlot, goodSlots, goodQueue, goodDrain, goodPlace, wellFormed}
+use Rattle.model.specs.Tables.{valid}
+use Rattle.model.proofs.WellFormed.{well-fresh}
+use Rattle.model.proofs.Tables.{on-tables}
+use Rattle.words.specs.Words.{slotWords, flagWord, queueWords}
+use Rattle.table.specs.Blocks.{drainWords, headWords, placeWords, encode, decode}
+use Rattle.table.specs.Search.{sized}
+use Rattle.table.specs.Layout.{layout, MeetsLaws, ValidExactly, Narrow, FreshIsZero, ConditionThree}
+use Rattle.table.proofs.Records.{words-length, decode-device}
+
+-- The two laws
+
+good-slots : (q : Queue) → goodQueue q ≡ true → length (q .slots) ≡ 16
+good-slots q h = eqb-true (length (q .slots)) 16 (and-left (eqb (length (q .slots)) 16) _ (and-left (goodSlots (q .slots)) _ h))
+
+-- the queues of a good record
+module _ (n : ℕ) (b : Stream) (h : goodPlace (occupied n b) ≡ true) where
+  good-rest : goodDrain (b .draining) && (goodQueue (b .inputs) && goodQueue (b .outputs)) ≡ true
+  good-rest = and-right (within (b .format) firstCoded lastCoded) _ (and-right (u32 n) _ h)
+
+  good-queues : goodQueue (b .inputs) && goodQueue (b .outputs) ≡ true
+  good-queues = and-right (goodDrain (b .draining)) _ good-rest
+
+  good-inputs : goodQueue (b .inputs) ≡ true
+  good-inputs = and-left (goodQueue (b .inputs)) _ good-queues
+
+  good-outputs : goodQueue (b .outputs) ≡ true
+  good-outputs = and-right (goodQueue (b .inputs)) _ good-queues
+
+pub good-sized : (p : Place) → goodPlace p ≡ true → sized p ≡ true
+good-sized vacant h = refl
+good-sized (occupied n b) h =
+    both (and-left (eqb (length (b .inputs .slots)) 16) _ (and-left (goodSlots (b .inputs .slots)) _ (good-inputs n b h)))
+    (and-left (eqb (length (b .outputs .slots)) 16) _ (and-left (goodSlots (b .outputs .slots)) _ (good-outputs n b h)))
+
+module _ (d : Device) (h : wellFormed d ≡ true) where
+  pub well-eight : length d ≡ 8
+  unfolding wellFormed
+  well-eight = eqb-true (length d) 8 (and-left (eqb (length d) 8) _ h)
+
+  pub well-places : allOf goodPlace d ≡ true
+  unfolding wellFormed
+  well-places = and-left (allOf goodPlace d) _ (and-right (eqb (length d) 8) _ h)
+
+  pub well-sized : allOf sized d ≡ true
+  well-sized = all-implied goodPlace sized good-sized d well-places
+
+pub meets-laws : MeetsLaws
+meets-laws = record {
+  size = λ d h. words-length d (well-sized d h) ∙ ap (λ (n : ℕ). 512 * n) (well-eight d h);
+  back = λ d h. decode-device d (well-sized d h) (well-eight d h);
+}
+
+-- No rule is missing and none is added
+
+-- a valid table's words are those of the device that they stand for
+module _ (t : List ℕ) (v : valid layout t ≡ true) where
+  pub valid-well : wellFormed (decode (take tableWords t)) ≡ true
+  unfolding valid
+  valid-well = and-left (wellFormed (decode (take tableWords t))) _ v
+
+  pub valid-words : take tableWords t ≡ encode (decode (take tableWords t))
+  unfolding valid
+  valid-words = same-true (take tableWords t) (encode (decode (take tableWords t))) (and-right (wellFormed (decode (take tableWords t))) _ v)
+
+-- only the used words count
+pub valid-front : (t : List ℕ) → valid layout (take tableWords t) ≡ valid layout t
+unfolding valid
+valid-front t = ap (λ (w : List ℕ). wellFormed (decode w) && same w (encode (decode w))) (take-take tableWords tableWords t (omega arith))
+
+pub valid-exactly : ValidExactly
+unfolding valid
+valid-exactly t = (
+  λ v. (decode (take tableWords t), (valid-well t v, valid-words t v)),
+  λ s.
+      let d = s .0 in
+      let back : decode (take tableWords t) ≡ d = ap decode (s .1 .1) ∙ meets-laws .back d (s .1 .0) in
+      both (ap wellFormed back ∙ s .1 .0) (ap₂ same (s .1 .1) (ap encode back) ∙ same-refl (encode d)),
+)
+
+-- The words are 32-bit words
+
+u32-of : (v : ℕ) → v < 2 ^ 32 → u32 v ≡ true
+unfolding u32
+u32-of v h = lt-ltb v (2 ^ 32) h
+
+below-u64 : (v : ℕ) → u64 v ≡ true → v < 2 ^ 64
+unfolding u64
+below-u64 v h = ltb-true v (2 ^ 64) h
+
+narrow-zeros : (n : ℕ) → allOf u32 (zeros n) ≡ true
+unfolding zeros
+narrow-zeros zero = refl
+narrow-zeros (suc n) = both (u32-of 0 (omega arith)) (narrow-zeros n)
+
+narrow-slot : (s : Slot) → goodSlot s ≡ true → allOf u32 (slotWords s) ≡ true
+unfolding u32
+narrow-slot free h = refl
+narrow-slot (resource r created) h = both (and-left (u32 r) _ h) refl
+narrow-slot (resource r (queued t ts)) h =
+    let rest = and-right (u32 r) _ h in
+    let whole : ts < 2 ^ 64 = below-u64 ts (and-right (u32 t) _ rest) in
+    both (and-left (u32 r) _ h) (both (and-left (u32 t) _ rest) (both (u32-of (ts % 2 ^ 32) (omega arith)) (both (u32-of (ts / 2 ^ 32) (omega arith)) refl)))
+narrow-slot (resource r dequeued) h = both (and-left (u32 r) _ h) refl
+
+narrow-pieces : {A : Type 0} (f : A → List ℕ) (p : A → Bool) → ((x : A) → p x ≡ true → allOf u32 (f x) ≡ true) → (l : List A) → allOf p l ≡ true → allOf u32 (pieces f l) ≡ true
+unfolding pieces
+narrow-pieces f p h [] e = refl
+narrow-pieces f p h (x ∷ l) e = all-append u32 (f x) (pieces f l) ∙ both (h x (and-left (p x) _ e)) (narrow-pieces f p h l (and-right (p x) _ e))
+
+narrow-flag : (b : Bool) → u32 (flagWord b) ≡ true
+narrow-flag true = u32-of 1 (omega arith)
+narrow-flag false = u32-of 0 (omega arith)
+
+narrow-extent : (v : ℕ) → not (badExtent v) ≡ true → u32 v ≡ true
+narrow-extent v h =
+    let good : within v 16 4096 && eqb (v % 2) 0 ≡ true = not-false _ (not-true (badExtent v) h) in
+    let high = within-bounds v 16 4096 (and-left (within v 16 4096) _ good) .1 in
+    u32-of v (omega arith)
+
+narrow-queue : (q : Queue) → goodQueue q ≡ true → allOf u32 (queueWords q) ≡ true
+unfolding queueWords
+narrow-queue q h =
+    let slots = and-left (goodSlots (q .slots)) _ h in
+    let params = and-right (goodSlots (q .slots)) _ h in
+    let more = and-right (not (badExtent (q .width))) _ params in
+    both (narrow-flag (q .clearing))
+    (both (narrow-extent (q .width) (and-left (not (badExtent (q .width))) _ params))
+    (both (narrow-extent (q .height) (and-left (not (badExtent (q .height))) _ more))
+    (both (and-right (not (badExtent (q .height))) _ more)
+    (narrow-pieces slotWords goodSlot narrow-slot (q .slots) (and-left (allOf goodSlot (q .slots)) _ (and-right (eqb (length (q .slots)) 16) _ slots))))))
+
+narrow-drain : (d : Option ℕ) → goodDrain d ≡ true → allOf u32 (drainWords d ++ zeros 3) ≡ true
+unfolding u32
+narrow-drain none h = narrow-zeros 3
+narrow-drain (some t) h = both h (narrow-zeros 3)
+
+narrow-head : (n format : ℕ) (d : Option ℕ) → u32 n ≡ true → within format firstCoded lastCoded ≡ true → goodDrain d ≡ true → allOf u32 (headWords n format d) ≡ true
+unfolding headWords
+narrow-head n format d u w g =
+    let high = within-bounds format firstCoded lastCoded w .1 in
+    both (u32-of 1 (omega arith)) (both u (both (u32-of format (omega arith)) (narrow-drain d g)))
+
+narrow-place : (p : Place) → goodPlace p ≡ true → allOf u32 (placeWords p) ≡ true
+unfolding placeWords
+narrow-place vacant h = narrow-zeros 512
+narrow-place (occupied n b) h =
+    let head = headWords n (b .format) (b .draining) in
+    let ins = queueWords (b .inputs) in
+    let outs = queueWords (b .outputs) in
+    all-append u32 head (ins ++ (outs ++ zeros 336))
+    ∙ both (narrow-head n (b .format) (b .draining) (and-left (u32 n) _ h) (and-left (within (b .format) firstCoded lastCoded) _ (and-right (u32 n) _ h)) (and-left (goodDrain (b .draining)) _ (good-rest n b h)))
+    (all-append u32 ins (outs ++ zeros 336)
+    ∙ both (narrow-queue (b .inputs) (good-inputs n b h)) (all-append u32 outs (zeros 336) ∙ both (narrow-queue (b .outputs) (good-outputs n b h)) (narrow-zeros 336)))
+
+pub narrow : Narrow
+unfolding encode
+narrow d h = narrow-pieces placeWords goodPlace narrow-place d (well-places d h)
+
+-- No streams
+
+no-zeros : zeros 0 ≡ []
+unfolding zeros
+no-zeros = refl
+
+vacant-zero : (n : ℕ) → encode (replicate n vacant) ≡ zeros (512 * n)
+unfolding encode pieces placeWords
+vacant-zero zero = sym (ap zeros (mul-zero 512) ∙ no-zeros)
+vacant-zero (suc n) =
+    ap (λ (w : List ℕ). zeros 512 ++ w) (vacant-zero n)
+    ∙ zeros-append 512 (512 * n)
+    ∙ ap zeros (let next : 512 + 512 * n ≡ 512 * suc n = omega (arith, mul-suc 512 n) in next)
+
+pub fresh-is-zero : FreshIsZero
+unfolding fresh
+fresh-is-zero = vacant-zero 8
+
+pub zero-is-fresh : decode (zeros tableWords) ≡ fresh
+zero-is-fresh = ap decode (sym fresh-is-zero) ∙ meets-laws .back fresh well-fresh
+
+-- Condition 3
+
+pub condition-three : ConditionThree
+condition-three = on-tables layout meets-laws

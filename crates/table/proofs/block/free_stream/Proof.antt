@@ -1,0 +1,20 @@
+-- `table::block::free_stream` meets its contract: 512 zeros are a vacant place.
+use mathlib.Core.Path.{ap, _∙_}
+use borrow.Author.Needs.{needs}
+use Rattle.table.specs.Blocks.{placeWords}
+use Rattle.laws.specs.Parts.{zeros}
+use Rattle.table.proofs.block.free_stream.Statement.{statement}
+use Rattle.table.proofs.block.free_stream.Tie as tie
+
+clear-requires : tie.Need-clear-requires
+clear-requires c κs = search needs
+
+same-length : tie.Need-same-length
+same-length c = search needs
+
+returns : tie.Need-returns
+unfolding placeWords
+returns c = c .before .before .clear .ensures ∙ ap zeros (c .before .before .before .before .before .pre)
+
+pub free-stream-spec : {M : Type 1} → statement M
+free-stream-spec = tie.close (tie.spec clear-requires same-length returns)

@@ -1,0 +1,55 @@
+-- The words of a stream place and of the whole device table, and the records that words stand for.
+use Prim.Native.Nat.{ℕ}
+use mathlib.Core.Bool.{cond}
+use mathlib.Core.Option.{Option, none, some}
+use mathlib.Core.List.{List, [], _∷_, _++_}
+use lib.ListN.{getD}
+use lib.Dec.{eqb}
+use Rattle.laws.specs.Parts.{part, zeros, pieces, readPieces}
+use Rattle.model.specs.Numbers.{streamPlaces}
+use Rattle.model.specs.Device.{QueueType, input, output, Place, vacant, occupied, Device}
+use Rattle.words.specs.Words.{queueSize, queueWords, decodeQueue}
+
+-- a place is a block of 512 words: live (0 or 1), number, coded format, drain owed (0 or 1), drain ticket, three words without use, the
+-- input queue from 8, the output queue from 92, and from 176 words without use; words without use are zero, and so is a vacant place
+abbrev pub placeSize : ℕ
+placeSize = 512
+
+abbrev pub queueStart : QueueType → ℕ
+queueStart input = 8
+queueStart output = 92
+
+abbrev pub drainWords : Option ℕ → List ℕ
+drainWords none = 0 ∷ 0 ∷ []
+drainWords (some t) = 1 ∷ t ∷ []
+
+unfoldable pub headWords : ℕ → ℕ → Option ℕ → List ℕ
+headWords n format drain = 1 ∷ n ∷ format ∷ (drainWords drain ++ zeros 3)
+
+unfoldable pub placeWords : Place → List ℕ
+placeWords vacant = zeros placeSize
+placeWords (occupied n b) = headWords n (b .format) (b .draining) ++ (queueWords (b .inputs) ++ (queueWords (b .outputs) ++ zeros 336))
+
+-- eight blocks
+unfoldable pub encode : Device → List ℕ
+encode d = pieces placeWords d
+
+-- The records that words stand for
+
+abbrev pub drainIn : ℕ → ℕ → Option ℕ
+drainIn owed ticket = cond (eqb owed 1) (some ticket) none
+
+unfoldable pub decodePlace : List ℕ → Place
+decodePlace w =
+    cond (eqb (getD w 0 0) 1)
+    (occupied (getD w 1 0)
+    (record {
+      format = getD w 2 0;
+      draining = drainIn (getD w 3 0) (getD w 4 0);
+      inputs = decodeQueue (part (queueStart input) queueSize w);
+      outputs = decodeQueue (part (queueStart output) queueSize w);
+    }))
+    vacant
+
+unfoldable pub decode : List ℕ → Device
+decode w = readPieces decodePlace placeSize streamPlaces w

@@ -1,0 +1,6 @@
+pub mod Blocks
+pub mod Layout
+pub mod Search
+pub mod Rules
+pub mod Values
+pub mod Full

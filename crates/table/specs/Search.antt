@@ -1,0 +1,38 @@
+-- What a search of the stream places finds. A place is named by its number in the device, counted from 0.
+use Prim.Native.Nat.{ℕ}
+use mathlib.Core.Bool.{Bool, true, false, _&&_}
+use mathlib.Core.Option.{Option}
+use lib.ListN.{length, getD}
+use lib.Dec.{eqb}
+use Rattle.laws.specs.Lists.{position}
+use Rattle.model.specs.Numbers.{queueSlots}
+use Rattle.model.specs.Device.{Place, vacant, occupied, Device}
+
+abbrev pub placeAt : ℕ → Device → Place
+placeAt k d = getD d k vacant
+
+abbrev pub isVacant : Place → Bool
+isVacant vacant = true
+isVacant (occupied m b) = false
+
+-- the place holds the stream number
+abbrev pub isStream : ℕ → Place → Bool
+isStream n vacant = false
+isStream n (occupied m b) = eqb m n
+
+-- the stream number in a place; 0 where there is none
+abbrev pub streamIn : Place → ℕ
+streamIn vacant = 0
+streamIn (occupied m b) = m
+
+-- the place of a stream number, and the lowest vacant place
+abbrev pub findStream : ℕ → Device → Option ℕ
+findStream n d = position (isStream n) d
+
+abbrev pub findVacant : Device → Option ℕ
+findVacant d = position isVacant d
+
+-- both queues have their sixteen slots, so that the place's words are a block
+abbrev pub sized : Place → Bool
+sized vacant = true
+sized (occupied n b) = eqb (length (b .inputs .slots)) queueSlots && eqb (length (b .outputs .slots)) queueSlots

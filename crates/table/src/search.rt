@@ -1,0 +1,75 @@
+// Searches of the stream places. The contracts speak of every device whose words are lent.
+ghost use mathlib.Core.Path.{_≡_};
+ghost use mathlib.Core.Bool.{true};
+ghost use lib.ListN.{length};
+ghost use Rattle.laws.specs.Lists.{allOf};
+ghost use Rattle.model.specs.Device.{Place, Device};
+ghost use Rattle.words.specs.Found.{foundAt, Within};
+ghost use Rattle.table.specs.Blocks.{placeWords, encode};
+ghost use Rattle.table.specs.Search.{isVacant, isStream, streamIn, findStream, findVacant, sized};
+use crate::PLACE_WORDS;
+use crate::PLACES;
+use crate::block::LIVE;
+use crate::block::NUMBER;
+use words::Found;
+
+// Whether a block holds the stream with that number.
+pub fn holds_stream(b: &[u32], number: u32) -> bool
+    requires { ⌜ length (now b) ≡ 512 ⌝ }
+    ensures { λ r. ⌜ ((p : Place) → now (b .entry) ≡ placeWords p → r ≡ isStream number p) ⌝ }
+{
+    if b[LIVE] == 0 {
+        return false;
+    }
+    b[NUMBER] == number
+}
+
+// Whether a block is vacant.
+pub fn is_vacant(b: &[u32]) -> bool
+    requires { ⌜ length (now b) ≡ 512 ⌝ }
+    ensures { λ r. ⌜ ((p : Place) → now (b .entry) ≡ placeWords p → r ≡ isVacant p) ⌝ }
+{
+    b[LIVE] == 0
+}
+
+// The number of a block's stream; 0 where it is vacant.
+pub fn stream_number(b: &[u32]) -> u32
+    requires { ⌜ length (now b) ≡ 512 ⌝ }
+    ensures { λ r. ⌜ ((p : Place) → now (b .entry) ≡ placeWords p → r ≡ streamIn p) ⌝ }
+{
+    b[NUMBER]
+}
+
+// The place of the stream with that number.
+pub fn find_stream(t: &[u32], number: u32) -> Found
+    requires { ⌜ length (now t) ≡ 4096 ⌝ }
+    ensures within { λ r. ⌜ Within r 8 ⌝ }
+    ensures found { λ r. ⌜ ((d : Device) → allOf sized d ≡ true → now (t .entry) ≡ encode d → foundAt r ≡ findStream number d) ⌝ }
+{
+    let mut k = 0;
+    while k < PLACES {
+        let at = PLACE_WORDS * k;
+        if holds_stream(&t[at..at + PLACE_WORDS], number) {
+            return Found::At(k);
+        }
+        k += 1;
+    }
+    Found::Nothing
+}
+
+// The lowest vacant place.
+pub fn find_vacant(t: &[u32]) -> Found
+    requires { ⌜ length (now t) ≡ 4096 ⌝ }
+    ensures within { λ r. ⌜ Within r 8 ⌝ }
+    ensures found { λ r. ⌜ ((d : Device) → allOf sized d ≡ true → now (t .entry) ≡ encode d → foundAt r ≡ findVacant d) ⌝ }
+{
+    let mut place = 0;
+    while place < PLACES {
+        let at = PLACE_WORDS * place;
+        if is_vacant(&t[at..at + PLACE_WORDS]) {
+            return Found::At(place);
+        }
+        place += 1;
+    }
+    Found::Nothing
+}

@@ -1,0 +1,18 @@
+-- `words::set_created` meets its contract.
+use mathlib.Core.Path.{refl}
+use borrow.Author.Needs.{needs}
+use Rattle.model.specs.Device.{created, resource}
+use Rattle.words.proofs.slots.set_created.Statement.{statement}
+use Rattle.words.proofs.slots.set_created.Tie as tie
+
+write-slot-requires : tie.Need-write-slot-requires
+write-slot-requires c κs = search needs
+
+same-length : tie.Need-same-length
+same-length c = search needs
+
+returns : tie.Need-returns
+returns c Q e = c .before .before .write-slot .ensures Q (resource (c .before .before .before .before .before .args .number) created) e refl
+
+pub set-created-spec : {M : Type 1} → statement M
+set-created-spec = tie.close (tie.spec write-slot-requires same-length returns)

@@ -1,0 +1,47 @@
+-- `words::stop_slot` meets its contract: a Queued slot is Dequeued, and any other is what stopping leaves it.
+use mathlib.Core.Path.{sym, ap, _∙_}
+use mathlib.Core.List.{List}
+use lib.ListN.{set}
+use borrow.Author.Needs.{needs}
+use Rattle.model.specs.Device.{Slot, withSlots}
+use Rattle.words.specs.Words.{queueWords}
+use Rattle.words.specs.Search.{slotAt}
+use Rattle.words.proofs.Each.{stop-queued, stop-none}
+use Rattle.words.proofs.slots.stop_slot.Statement.{statement}
+use Rattle.words.proofs.slots.stop_slot.Tie as tie
+
+slot-queued-requires : tie.Need-slot-queued-requires
+slot-queued-requires c κs = search needs
+
+set-dequeued-requires : tie.Need-set-dequeued-requires
+set-dequeued-requires c κs = search needs
+
+same-length : tie.Need-same-length
+same-length c = search needs
+
+returns : tie.Need-returns
+returns c Q e =
+    let k = c .before .before .before .before .before .before .before .before .args .k in
+    let test = sym (c .before .before .before .before .before .slot-queued .ensures Q e) ∙ c .before .before .before .before .if1 .taken in
+    c .before .before .set-dequeued .ensures Q e
+    ∙ ap (λ (x : Slot). queueWords (withSlots (set (Q .slots) k x) Q)) (stop-queued (slotAt k (Q .slots)) test)
+
+same-length-2 : tie.Need-same-length-2
+same-length-2 c = search needs
+
+returns-2 : tie.Need-returns-2
+returns-2 c Q e =
+    let k = c .before .before .before .before .args .k in
+    let test = sym (c .before .slot-queued .ensures Q e) ∙ c .if1 .left in
+    e ∙ ap (λ (s : List Slot). queueWords (withSlots s Q)) (sym (stop-none k (Q .slots) test))
+
+pub stop-slot-spec : {M : Type 1} → statement M
+stop-slot-spec =
+    tie.close
+    (tie.spec
+    slot-queued-requires
+    set-dequeued-requires
+    same-length
+    returns
+    same-length-2
+    returns-2)

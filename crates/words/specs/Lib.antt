@@ -1,0 +1,6 @@
+pub mod Words
+pub mod Search
+pub mod Found
+pub mod Lowest
+pub mod Rules
+pub mod Changes

@@ -1,0 +1,55 @@
+-- The words of a slot and of a queue in the device table, and the records that words stand for.
+use Prim.Native.Nat.{ℕ, _+_, _*_, _/_, _%_, _^_}
+use mathlib.Core.Bool.{Bool, true, false, cond}
+use mathlib.Core.List.{List, [], _∷_}
+use lib.ListN.{getD, drop}
+use lib.Dec.{eqb}
+use Rattle.laws.specs.Parts.{pieces, readPieces}
+use Rattle.model.specs.Numbers.{queueSlots}
+use Rattle.model.specs.Device.{created, queued, dequeued, Slot, free, resource, Queue}
+
+-- a slot is 5 words: state (0 free, 1 Created, 2 Queued, 3 Dequeued), number, ticket, timestamp low and high; what has no use is zero
+abbrev pub slotSize : ℕ
+slotSize = 5
+
+abbrev pub slotWords : Slot → List ℕ
+slotWords free = 0 ∷ 0 ∷ 0 ∷ 0 ∷ 0 ∷ []
+slotWords (resource r created) = 1 ∷ r ∷ 0 ∷ 0 ∷ 0 ∷ []
+slotWords (resource r (queued t ts)) = 2 ∷ r ∷ t ∷ ts % 2 ^ 32 ∷ ts / 2 ^ 32 ∷ []
+slotWords (resource r dequeued) = 3 ∷ r ∷ 0 ∷ 0 ∷ 0 ∷ []
+
+-- a flag is one word, 0 or 1
+abbrev pub flagWord : Bool → ℕ
+flagWord true = 1
+flagWord false = 0
+
+-- a queue is 84 words: clear-in-progress mark, width, height, rate, and its sixteen slots
+abbrev pub queueSize : ℕ
+queueSize = 84
+
+abbrev pub firstSlot : ℕ
+firstSlot = 4
+
+unfoldable pub queueWords : Queue → List ℕ
+queueWords q = flagWord (q .clearing) ∷ q .width ∷ q .height ∷ q .rate ∷ pieces slotWords (q .slots)
+
+-- The records that words stand for. Each function is total; words that stand for no record are told by writing the record again.
+
+abbrev pub slotIn : ℕ → ℕ → ℕ → ℕ → ℕ → Slot
+slotIn state r t low high =
+    cond (eqb state 1) (resource r created)
+    (cond (eqb state 2) (resource r (queued t (low + 2 ^ 32 * high)))
+    (cond (eqb state 3) (resource r dequeued) free))
+
+unfoldable pub decodeSlot : List ℕ → Slot
+decodeSlot w = slotIn (getD w 0 0) (getD w 1 0) (getD w 2 0) (getD w 3 0) (getD w 4 0)
+
+unfoldable pub decodeQueue : List ℕ → Queue
+decodeQueue w =
+    record {
+      clearing = eqb (getD w 0 0) 1;
+      width = getD w 1 0;
+      height = getD w 2 0;
+      rate = getD w 3 0;
+      slots = readPieces decodeSlot slotSize queueSlots (drop firstSlot w);
+    }
