@@ -29,7 +29,7 @@ entry-pins =
 pub told-pins : Told
 unfolding within same insert below above field littleEndian classOf utf8After utf8 nulAt goodTag fresh put commandOf queueNamed responseBytes first onCreate onDestroy onDrain onCreateResource onQueue onDestroyAll onClear parameterWords onGet onSet onCommand onFinish onDrained streamOf serve hostRefusal step
 told-pins =
-    record { destroyed = refl; input-cleared = refl; output-cleared = refl; input-finished = refl; output-finished = refl; drain-ended = refl }
+    record { made = refl; destroyed = refl; input-cleared = refl; output-cleared = refl; input-finished = refl; output-finished = refl; drain-ended = refl }
 
 pub rule-pins : Rules
 unfolding within fresh u32 u64 wellFormed

@@ -525,6 +525,9 @@ finishes =
     ∷ case outputDraining (outputEnds 9 2) 0 (bufferAnswer 30 0x89ABCDEF 0x01234567 2)
     ∷ case outputDraining (outputEnds 9 3) 0 (bufferAnswer 30 0x89ABCDEF 0x01234567 3)
     ∷ case owing (inputEnds 9 1) 0 (bufferAnswer 20 77 1 1)
+    -- all eight bytes of a timestamp are kept
+    ∷ case (both ++ queueingAt 21 0x100 9 0x04030201 0x80706050 0 ∷ []) (inputEnds 9 0) 0 (bufferAnswer 21 0x04030201 0x80706050 0)
+    ∷ case (both ++ queueingAt 31 0x101 9 0x84030201 0xF0706050 0 ∷ []) (clearing 5 0x101) 0 (bufferAnswer 31 0x84030201 0xF0706050 1 ++ succeeds 5)
     -- the report leaves the other queue's buffer Queued, and its own can be queued again, once
     ∷ case (bothQueued ++ inputEnds 9 0 ∷ []) (outputEnds 9 0) 0 (bufferAnswer 30 0x89ABCDEF 0x01234567 0)
     ∷ case (bothQueued ++ outputEnds 9 0 ∷ []) (inputEnds 9 0) 0 (bufferAnswer 20 77 1 0)
@@ -1100,6 +1103,8 @@ says t r = record { ticket = t; stream = 7; response = r }
 
 -- what the answers are, where their bytes do not tell: a buffer's of its queue, a drain's, the command's own
 pub record Told : Type 0 where
+  -- "Plain success", of a creation
+  pub made : told [] creating ≡ says 1 success ∷ []
   -- 0x0102: "every Queued input, then output, then an owed drain, then itself"
   pub destroyed : told owing (closing 7) ≡ says 20 (bufferDone input 0x10000004D 1) ∷ says 30 (bufferDone output 0x200000058 1) ∷ says 40 drainDone ∷ says 5 success ∷ []
   -- 0x0107: "that queue's Queued buffers, then, for input only, an owed drain, then itself"
