@@ -108,9 +108,9 @@ unfolding pieces
 pieces-append f [] m = refl
 pieces-append f (x ∷ l) m = ap (λ (w : List ℕ). f x ++ w) (pieces-append f l m) ∙ sym (append-assoc (f x) (pieces f l) (pieces f m))
 
-pieces-none : {A : Type 0} (f : A → List ℕ) (x : A) (l : List A) → pieces f (x ∷ l) ≡ f x ++ pieces f l
+pieces-cons : {A : Type 0} (f : A → List ℕ) (x : A) (l : List A) → pieces f (x ∷ l) ≡ f x ++ pieces f l
 unfolding pieces
-pieces-none f x l = refl
+pieces-cons f x l = refl
 
 pub words-length : (d : Device) → allOf sized d ≡ true → length (encode d) ≡ 512 * length d
 unfolding encode pieces
@@ -147,14 +147,14 @@ module _ (d : Device) (s : allOf sized d ≡ true) (k : ℕ) (h : k < length d) 
   at =
       ap (pieces placeWords) (split-at d k vacant h)
       ∙ pieces-append placeWords (take k d) (placeAt k d ∷ drop (suc k) d)
-      ∙ ap (λ (w : List ℕ). pieces placeWords (take k d) ++ w) (pieces-none placeWords (placeAt k d) (drop (suc k) d))
+      ∙ ap (λ (w : List ℕ). pieces placeWords (take k d) ++ w) (pieces-cons placeWords (placeAt k d) (drop (suc k) d))
 
   with : (p : Place) → encode (set d k p) ≡ before ++ (placeWords p ++ after)
   unfolding encode before after
   with p =
       ap (pieces placeWords) (set-split d k p h)
       ∙ pieces-append placeWords (take k d) (p ∷ drop (suc k) d)
-      ∙ ap (λ (w : List ℕ). pieces placeWords (take k d) ++ w) (pieces-none placeWords p (drop (suc k) d))
+      ∙ ap (λ (w : List ℕ). pieces placeWords (take k d) ++ w) (pieces-cons placeWords p (drop (suc k) d))
 
   pub place-part : part (512 * k) 512 (encode d) ≡ placeWords (placeAt k d)
   place-part = ap (part (512 * k) 512) at ∙ part-mid before (placeWords (placeAt k d)) after (512 * k) 512 start (place-length (placeAt k d) this)

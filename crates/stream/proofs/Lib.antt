@@ -1,0 +1,3 @@
+pub mod Steps
+pub mod Tested
+pub mod Ends

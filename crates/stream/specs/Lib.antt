@@ -1,0 +1,3 @@
+pub mod Replied
+pub mod Queueing
+pub mod Done

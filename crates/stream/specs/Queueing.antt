@@ -1,0 +1,23 @@
+-- A queue command between its tests.
+use Prim.Native.Nat.{ℕ}
+use mathlib.Core.Path.{_≡_}
+use mathlib.Core.Bool.{Bool, true, false, not, _&&_, _||_}
+use mathlib.Core.Option.{some}
+use mathlib.Core.List.{List}
+use Rattle.laws.specs.Lists.{isNone}
+use Rattle.model.specs.Device.{QueueType, Stream, queueOf}
+use Rattle.model.specs.Frames.{queueNamed, queueType, resourceId}
+use Rattle.model.specs.Commands.{isInput}
+use Rattle.words.specs.Search.{findResource}
+use Rattle.frame.specs.Frame.{goodSizes}
+
+-- the queue takes no buffer: an input queue while draining, or a clear in progress
+abbrev pub shut : QueueType → Stream → Bool
+shut q b = (isInput q && not (isNone (b .draining))) || queueOf q b .clearing
+
+-- the frame f names the queue q, which takes buffers, and the resource in its slot k
+pub record Placed (f : List ℕ) (b : Stream) (q : QueueType) (k : ℕ) : Type 0 where
+  pub named : queueNamed (queueType f) ≡ some q
+  pub sizes : goodSizes f ≡ true
+  pub takes : shut q b ≡ false
+  pub found : findResource (resourceId f) (queueOf q b .slots) ≡ some k
