@@ -4,7 +4,7 @@ use mathlib.Core.Option.{some}
 use mathlib.Core.List.{List, [], _∷_, _++_, append-assoc, append-nil}
 use Prim.Native.Nat.{ℕ, _+_, _*_, _/_}
 use native.Mathlib.Omega.{arith}
-use lib.ListN.{length, length-append}
+use lib.ListN.{length}
 use lib.Seq.{sets}
 use Rattle.laws.specs.Stores.{Wrote}
 use Rattle.laws.proofs.Stores.{sets-next, sets-four}
@@ -13,13 +13,10 @@ use Rattle.field.proofs.Laws.{length-littleEndian}
 use Rattle.model.specs.Device.{QueueType, input, output, Queue, Stream, queueOf}
 use Rattle.model.specs.Answers.{code, Response, success, bufferDone, drainDone, parameters, failure, words, responseBytes, bytesOf}
 use Rattle.model.specs.Commands.{planes, parameterWords}
+use Rattle.model.proofs.ReadBack.{length-words}
 use Rattle.answer.specs.Answer.{answerTo, plainBytes, plainCode, pairs, SidesOf, NumbersOf}
 
--- words have four bytes each, and words after words are words
-pub length-words : (ws : List ℕ) → length (words ws) ≡ 4 * length ws
-length-words [] = refl
-length-words (w ∷ ws) = rw (length-append, length-littleEndian 4 w, length-words ws) (omega arith)
-
+-- words after words are words
 pub words-append : (xs ys : List ℕ) → words (xs ++ ys) ≡ words xs ++ words ys
 words-append [] ys = refl
 words-append (x ∷ xs) ys = rw (append-assoc, words-append xs ys)

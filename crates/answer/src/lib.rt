@@ -11,12 +11,27 @@ ghost use Rattle.model.specs.Commands.{planes, parameterWords};
 ghost use Rattle.answer.specs.Answer.{answerTo, plainBytes, pairs, SidesOf, NumbersOf};
 
 // The type of a plain success, also of a buffer's answer, and of the answer to a get.
-const OK: u32 = 0x0200;
+pub const OK: u32 = 0x0200;
 
 const PARAMETERS: u32 = 0x0203;
 
-// The queue type of an input queue; every other number here is an output queue's.
-const INPUT: u32 = 0x0100;
+// The codes of the errors.
+pub const INVALID_OPERATION: u32 = 0x0300;
+
+pub const OUT_OF_MEMORY: u32 = 0x0301;
+
+pub const INVALID_STREAM: u32 = 0x0302;
+
+pub const INVALID_RESOURCE: u32 = 0x0303;
+
+pub const INVALID_PARAMETER: u32 = 0x0304;
+
+pub const UNSUPPORTED_CONTROL: u32 = 0x0305;
+
+// The queue types. A writer takes every number but the input queue's for the output queue's.
+pub const INPUT: u32 = 0x0100;
+
+pub const OUTPUT: u32 = 0x0101;
 
 // The buffers that a queue holds at least and at most.
 const MINIMUM: u32 = 1;

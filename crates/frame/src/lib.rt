@@ -6,7 +6,7 @@ ghost use lib.ListN.{length, take};
 ghost use Rattle.laws.specs.Tests.{within};
 ghost use Rattle.laws.specs.Lists.{total};
 ghost use Rattle.tag.specs.Tag.{goodTag, tagIn};
-ghost use Rattle.model.specs.Frames.{commandOf, exactly, atLeast, wrongLength, queueNamed, commandType, streamId, codedFormat, queueType, resourceId, numEntries, timestampSent, frameWidth, frameHeight, frameRate};
+ghost use Rattle.model.specs.Frames.{commandOf, exactly, atLeast, queueNamed, commandType, streamId, codedFormat, queueType, resourceId, numEntries, timestampSent, frameWidth, frameHeight, frameRate};
 ghost use Rattle.model.specs.Commands.{badEntry};
 ghost use Rattle.frame.specs.Frame.{goodCreation, goodEntry, goodEntries, goodResource, goodSizes, goodExtent, goodSet};
 ghost use Rattle.frame.specs.Meant.{lengthError, lengthOf, errorOf, queueMeant};

@@ -2,19 +2,17 @@
 use mathlib.Core.Path.{_≡_, refl, sym, ap, _∙_}
 use mathlib.Core.Bool.{true, false, _&&_, and-assoc, false≢true}
 use mathlib.Core.List.{List, [], _∷_, _++_}
-use Prim.Native.Nat.{ℕ, zero, suc, _+_, _*_, _<_, _≤_}
-use native.Mathlib.Nat.{mul-zero, mul-suc, mul-le-mul-left}
+use Prim.Native.Nat.{ℕ, _<_, _≤_}
 use native.Mathlib.Omega.{arith}
 use lib.Dec.{eqb}
-use lib.ListN.{length, getD, take, drop, length-drop, take-append-drop}
-use lib.Seq.{take-all, length-take-le, ext-getD}
+use lib.ListN.{length, getD, take, drop, take-append-drop}
+use lib.Seq.{length-take-le, ext-getD}
 use borrow.Author.Tests.{eqb-true}
 use Rattle.laws.specs.Lists.{same}
-use Rattle.laws.specs.Tests.{allBelow}
-use Rattle.laws.specs.Parts.{part, blocks, zeros}
-use Rattle.laws.proofs.Tests.{ne-true, both, and-left, and-right, all-ext}
+use Rattle.laws.specs.Parts.{zeros}
+use Rattle.laws.proofs.Tests.{ne-true, both, and-left, and-right}
 use Rattle.laws.proofs.Lists.{eqb-refl}
-use Rattle.laws.proofs.Parts.{zero-length, zero-at, part-take, blocks-length}
+use Rattle.laws.proofs.Parts.{zero-length, zero-at}
 
 pub same-refl : (a : List ℕ) → same a a ≡ true
 unfolding same
@@ -47,7 +45,7 @@ module _ (l : List ℕ) where
   pub zero-false : (i : ℕ) → i < length l → (getD l i 0 ≡ 0 → ⊥) → same l (zeros (length l)) ≡ false
   zero-false i h f = same-ne l (zeros (length l)) (λ e. f (ap (λ (x : List ℕ). getD x i 0) e ∙ zero-at (length l) i h))
 
--- lists side by side, a list that is cut at n, and blocks of k numbers
+-- lists side by side, and a list that is cut at n
 pub same-append : (a c b d : List ℕ) → length a ≡ length c → same (a ++ b) (c ++ d) ≡ same a c && same b d
 unfolding same
 same-append [] [] b d h = refl
@@ -59,17 +57,3 @@ pub same-cut : (l a b : List ℕ) (n : ℕ) → n ≤ length l → length a ≡ 
 same-cut l a b n h e =
     ap (λ (x : List ℕ). same x (a ++ b)) (sym (take-append-drop n l))
     ∙ same-append (take n l) a (drop n l) b (length-take-le n l h ∙ sym e)
-
-pub same-blocks : (k : ℕ) (f : ℕ → List ℕ) → ((i : ℕ) → length (f i) ≡ k) → (n : ℕ) (l : List ℕ) → length l ≡ k * n
-    → same l (blocks n f) ≡ allBelow n (λ i. same (part (k * i) k l) (f i))
-unfolding allBelow blocks
-same-blocks k f len zero l h = same-eq l [] (sym (take-all 0 l (omega (arith, mul-zero k))))
-same-blocks k f len (suc n) l h =
-    let whole : length l ≡ k * n + k = h ∙ mul-suc k n in
-    let short : k * n ≤ length l = omega arith in
-    let last : length (drop (k * n) l) ≤ k = rw length-drop (omega arith) in
-    same-cut l (blocks n f) (f n) (k * n) short (blocks-length k f len n)
-    ∙ rw (same-blocks k f len n (take (k * n) l) (length-take-le (k * n) l short))
-    (rw (all-ext (λ i. same (part (k * i) k (take (k * n) l)) (f i)) (λ i. same (part (k * i) k l) (f i)) n
-    (λ i lt. ap (λ (x : List ℕ). same x (f i)) (part-take l (k * n) (k * i) k short (rw (← mul-suc) (mul-le-mul-left k lt)))))
-    (ap (λ (x : List ℕ). allBelow n (λ i. same (part (k * i) k l) (f i)) && same x (f n)) (sym (take-all k (drop (k * n) l) last))))

@@ -1,14 +1,14 @@
 -- Laws of runs of stores: two runs are one, by `sets-append`; all others follow from it and the library's `sets-eq`.
 use mathlib.Core.Path.{_≡_, refl, _∙_}
 use mathlib.Core.List.{List, [], _∷_, _++_, append-assoc}
-use Prim.Native.Nat.{ℕ, suc, _+_, _*_, _-_, _≤_}
+use Prim.Native.Nat.{ℕ, suc, _+_, _-_, _≤_}
 use native.Mathlib.Nat.{zero-add, add-zero, add-suc, suc-add}
 use native.Mathlib.Omega.{arith}
 use lib.ListN.{length, take, drop, set, length-append, length-drop}
 use lib.Seq.{sets, sets-eq, length-sets, take-all, drop-drop, length-take-le}
-use Rattle.laws.specs.Parts.{part, put, zeros, blocks}
+use Rattle.laws.specs.Parts.{part, put, zeros}
 use Rattle.laws.specs.Stores.{Wrote}
-use Rattle.laws.proofs.Parts.{part-mid, zero-length, zeros-append, blocks-length, blocks-more}
+use Rattle.laws.proofs.Parts.{part-mid, zero-length, zeros-append}
 
 -- two runs of stores, one after the other, are one
 pub sets-append : (d : List ℕ) (i : ℕ) (xs ys : List ℕ) → sets (sets d i xs) (i + length xs) ys ≡ sets d i (xs ++ ys)
@@ -28,11 +28,6 @@ sets-four d i k l m a b c e x y z p q r s =
     (rw (sets-next d i l (a ++ b) c (rw length-append y))
     (rw (sets-next d i m (a ++ b ++ c) e (rw (length-append, length-append) z))
     (simp append-assoc))))
-
--- pieces of w numbers, stored one after the other
-pub sets-blocks : (f : ℕ → List ℕ) (w : ℕ) → ((k : ℕ) → length (f k) ≡ w) → (d : List ℕ) (i n : ℕ)
-    → sets (sets d i (blocks n f)) (i + w * n) (f n) ≡ sets d i (blocks (n + 1) f)
-sets-blocks f w each d i n = rw (blocks-more n f) (sets-next d i (w * n) (blocks n f) (f n) (blocks-length w f each n))
 
 -- a run that is cleared, one number after the other
 pub sets-zeros : (d : List ℕ) (i n : ℕ) → set (sets d i (zeros n)) (i + n) 0 ≡ sets d i (zeros (n + 1))
@@ -54,7 +49,7 @@ module _ (d xs : List ℕ) (i : ℕ) (fits : i + length xs ≤ length d) where
 pub take-sets : (d xs : List ℕ) → length xs ≤ length d → take (length xs) (sets d 0 xs) ≡ xs
 take-sets d xs h = part-sets d xs 0 (rw zero-add h)
 
--- nothing written; one run of stores; one run of bytes after another; one more piece behind n
+-- nothing written; one run of stores; one run of bytes after another
 pub wrote-none : (d : List ℕ) (at : ℕ) → Wrote d d at at []
 wrote-none d at = record { next = omega arith; whole = refl }
 
@@ -66,9 +61,6 @@ wrote-append {d} {at = at} xs ys p q = record {
   next = rw length-append (omega arith);
   whole = q .whole ∙ rw (p .whole, p .next) (sets-append d at xs ys);
 }
-
-pub wrote-blocks : {d e g : List ℕ} {at m r : ℕ} (f : ℕ → List ℕ) (n : ℕ) → Wrote d e at m (blocks n f) → Wrote e g m r (f n) → Wrote d g at r (blocks (n + 1) f)
-wrote-blocks f n p q = rw (blocks-more n f) (wrote-append (blocks n f) (f n) p q)
 
 -- writing leaves the length
 pub wrote-length : {d e : List ℕ} {at r : ℕ} {xs : List ℕ} → Wrote d e at r xs → length e ≡ length d

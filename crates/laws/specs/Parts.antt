@@ -1,8 +1,6 @@
--- A part of a list, a list with another part (in the form in which a lent part comes back), and blocks side by side.
+-- A part of a list, a list with another part (in the form in which a lent part comes back), and pieces side by side.
 use Prim.Native.Nat.{ℕ, zero, suc}
-use mathlib.Core.Bool.{cond}
 use mathlib.Core.List.{List, [], _∷_, _++_}
-use lib.Dec.{eqb}
 use lib.ListN.{take, drop, replicate}
 
 -- the n elements from a
@@ -16,16 +14,6 @@ put a n l ys = take a l ++ (ys ++ drop n (drop a l))
 -- n zeros. A name of its own keeps a long run of them from being written out wherever it stands.
 unfoldable pub zeros : ℕ → List ℕ
 zeros n = replicate n 0
-
--- f 0, .., f (n - 1), one after the other
-unfoldable pub blocks : ℕ → (ℕ → List ℕ) → List ℕ
-blocks zero f = []
-blocks (suc n) f = blocks n f ++ f n
-
-module _ {A : Type 0} where
-  -- f with x at i
-  abbrev pub update : (ℕ → A) → ℕ → A → ℕ → A
-  update f i x j = cond (eqb j i) x (f j)
 
 module _ {A : Type 0} where
   -- the elements written one after the other

@@ -4,23 +4,23 @@ use native.Mathlib.Omega.{arith}
 use mathlib.Core.Path.{_≡_, refl, sym, ap, _∙_}
 use mathlib.Core.Bool.{Bool, true, false, not, _&&_, and-false}
 use mathlib.Core.Option.{Option, none, some}
-use mathlib.Core.List.{List, [], _∷_}
+use mathlib.Core.List.{[], _∷_}
 use lib.ListN.{length}
 use lib.Dec.{eqb}
 use borrow.Author.Tests.{eqb-true}
 use Rattle.laws.specs.Tests.{within}
 use Rattle.laws.specs.Lists.{allOf, count}
 use Rattle.laws.proofs.Tests.{never, and-left}
-use Rattle.laws.proofs.Lists.{decide, cond-elim}
+use Rattle.laws.proofs.Lists.{decide}
 use Rattle.field.specs.Field.{field, littleEndian}
 use Rattle.tag.specs.Tag.{createType, createLength, goodTag, tagIn}
 use Rattle.model.specs.Numbers.{streamPlaces, firstCoded, lastCoded}
-use Rattle.model.specs.Device.{Stream, vacant, occupied, Device, newStream, recordOf, noPlace}
+use Rattle.model.specs.Device.{Stream, vacant, occupied, Device, recordOf, noPlace}
 use Rattle.model.specs.Frames.{create, exactly, CommandLine, _is_ofLength_, commandOf, wrongLength, commandType, inMemType, outMemType, codedFormat}
-use Rattle.model.specs.Answers.{invalidOperation, invalidStream, invalidParameter, responseBytes, readFrom}
+use Rattle.model.specs.Answers.{invalidOperation, invalidParameter, responseBytes, readFrom}
 use Rattle.model.specs.Replies.{Reply, Request, fail, first}
 use Rattle.model.specs.Commands.{onCreate, onStream, onLine, onCommand}
-use Rattle.model.specs.Steps.{Act, command, finish, drained, Step, serve, Outcome, perform, step, entryOf, isCreation, outOfMemoryAt}
+use Rattle.model.specs.Steps.{Act, command, finish, drained, serve, Outcome, entryOf, isCreation, outOfMemoryAt}
 use Rattle.model.specs.WellFormed.{goodPlace, distinctPlaces, wellFormed}
 use Rattle.model.specs.Promises.{isLive, FullAtEight}
 use Rattle.model.proofs.Lines.{by-type}

@@ -55,7 +55,7 @@ sizeOf drainDone = 8
 sizeOf (parameters ws) = 8 + 4 * length ws
 sizeOf (failure e) = 8
 
-length-words : (ws : List ℕ) → length (words ws) ≡ 4 * length ws
+pub length-words : (ws : List ℕ) → length (words ws) ≡ 4 * length ws
 unfolding littleEndian
 length-words [] = refl
 length-words (w ∷ ws) = omega (arith, length-words ws)

@@ -40,7 +40,7 @@ live-answers queryControl c b = refl
 live-answers getControl c b = refl
 live-answers setControl c b = refl
 
-command-answers : (around : Surroundings) (c : Request) → NotRefused (onCommand around c)
+pub command-answers : (around : Surroundings) (c : Request) → NotRefused (onCommand around c)
 unfolding onCreate
 command-answers around c =
     command-cases NotRefused around c (λ e. refl) (λ e. walk NotRefused c _ (λ e. refl) (λ h₁ h₂ h₃ h₄ h₅. refl)) (λ k b e. live-answers k c b)

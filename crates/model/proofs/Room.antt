@@ -41,7 +41,7 @@ size-drain : (n : ℕ) (d : Option ℕ) → size (drainAnswers n d) ≤ 16
 size-drain n none = omega arith
 size-drain n (some t) = omega (arith, size-cons t n drainDone [])
 
-length-queued : (s : List Slot) → length (queuedIn s) ≤ length s
+pub length-queued : (s : List Slot) → length (queuedIn s) ≤ length s
 length-queued [] = omega arith
 length-queued (free ∷ s) = omega (arith, length-queued s)
 length-queued (resource m created ∷ s) = omega (arith, length-queued s)

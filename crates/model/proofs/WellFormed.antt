@@ -158,7 +158,7 @@ queue-is q h =
 is-queue : (q : Queue) → GoodQueue q → goodQueue q ≡ true
 is-queue q g = both (are-slots (q .slots) (g .slots)) (both (ap not (g .width)) (both (ap not (g .height)) (g .rate)))
 
-stream-is : (b : Stream) → goodStream b ≡ true → GoodStream b
+pub stream-is : (b : Stream) → goodStream b ≡ true → GoodStream b
 stream-is b h =
     let r₁ = and-right (within (b .format) firstCoded lastCoded) _ h in
     let r₂ = and-right (goodDrain (b .draining)) _ r₁ in

@@ -1,27 +1,23 @@
 -- The steps of a command to a live stream: its queues' words in the block, and the replies that its answers and its changes amount to.
-use mathlib.Core.Path.{_≡_, refl, sym, ap, _∙_}
-use mathlib.Core.Bool.{Bool, true, false, not, _&&_}
-use mathlib.Core.Option.{Option, none, some}
+use mathlib.Core.Path.{_≡_, refl}
+use mathlib.Core.Bool.{true, false, _&&_}
+use mathlib.Core.Option.{Option, some}
 use mathlib.Core.List.{List, [], _∷_}
 use Prim.Native.Nat.{ℕ, _+_, _-_, _≤_, _%_}
-use native.Mathlib.Omega.{arith}
 use lib.ListN.{length}
 use lib.Dec.{eqb}
-use borrow.Author.Tests.{eqb-true, not-true, not-false}
-use Rattle.laws.specs.Lists.{allOf}
+use borrow.Author.Tests.{not-false}
 use Rattle.laws.specs.Parts.{part, put}
 use Rattle.laws.specs.Tests.{within}
 use Rattle.laws.specs.Stores.{Wrote}
-use Rattle.laws.proofs.Tests.{and-left, and-right, within-bounds}
+use Rattle.laws.proofs.Tests.{and-left, within-bounds}
 use Rattle.laws.proofs.Stores.{wrote-none}
-use Rattle.model.specs.Numbers.{firstCoded, lastCoded}
-use Rattle.model.specs.Device.{QueueType, input, output, Slot, Queue, Stream, occupied, queueOf, withQueue, place}
+use Rattle.model.specs.Device.{QueueType, Queue, Stream, occupied, queueOf, withQueue, place}
 use Rattle.model.specs.Answers.{ErrorCode, code, Response, success, failure, Answer, bytesOf}
 use Rattle.model.specs.Replies.{Reply, reply}
 use Rattle.model.specs.Commands.{badExtent}
-use Rattle.model.specs.WellFormed.{goodSlot, distinctSlots, goodSlots, goodQueue, goodDrain, u32}
 use Rattle.model.proofs.Slots.{Distinct}
-use Rattle.model.proofs.WellFormed.{distinct-of}
+use Rattle.model.proofs.WellFormed.{GoodQueue, stream-is, good-queue-of}
 use Rattle.words.specs.Words.{queueWords}
 use Rattle.table.specs.Blocks.{queueStart, placeWords}
 use Rattle.table.specs.Search.{sized}
@@ -34,32 +30,20 @@ use Rattle.stream.specs.Replied.{Holds, Replied}
 
 module _ {n : ℕ} {l : List ℕ} {b : Stream} (h : Holds n l b) where
   -- its queue q: sixteen slots, no number twice, a width and a height within their limits
-  good-queue : (q : QueueType) → goodQueue (queueOf q b) ≡ true
-  good-queue q = of q (and-right (goodDrain (b .draining)) _ (and-right (within (b .format) firstCoded lastCoded) _ (h .good)))
-    where
-      of : (p : QueueType) → goodQueue (b .inputs) && goodQueue (b .outputs) ≡ true → goodQueue (queueOf p b) ≡ true
-      of input g = and-left (goodQueue (b .inputs)) _ g
-      of output g = and-right (goodQueue (b .inputs)) _ g
-
-  good-slots : (q : QueueType) → goodSlots (queueOf q b .slots) ≡ true
-  good-slots q = and-left (goodSlots (queueOf q b .slots)) _ (good-queue q)
+  good-queue : (q : QueueType) → GoodQueue (queueOf q b)
+  good-queue q = good-queue-of q b (stream-is b (h .good))
 
   pub slot-count : (q : QueueType) → length (queueOf q b .slots) ≡ 16
-  slot-count q = eqb-true _ _ (and-left (eqb (length (queueOf q b .slots)) 16) _ (good-slots q))
+  slot-count q = (good-queue q) .slots .size
 
   pub apart : (q : QueueType) → Distinct (queueOf q b .slots)
-  apart q =
-      let s = queueOf q b .slots in
-      distinct-of s (and-right (allOf goodSlot s) _ (and-right (eqb (length s) 16) _ (good-slots q)))
-
-  sides : (q : QueueType) → not (badExtent (queueOf q b .width)) && (not (badExtent (queueOf q b .height)) && u32 (queueOf q b .rate)) ≡ true
-  sides q = and-right (goodSlots (queueOf q b .slots)) _ (good-queue q)
+  apart q = (good-queue q) .slots .apart
 
   pub width-good : (q : QueueType) → badExtent (queueOf q b .width) ≡ false
-  width-good q = not-true _ (and-left (not (badExtent (queueOf q b .width))) _ (sides q))
+  width-good q = (good-queue q) .width
 
   pub height-good : (q : QueueType) → badExtent (queueOf q b .height) ≡ false
-  height-good q = not-true _ (and-left (not (badExtent (queueOf q b .height))) _ (and-right (not (badExtent (queueOf q b .width))) _ (sides q)))
+  height-good q = (good-queue q) .height
 
   whole : sized (occupied n b) ≡ true
   whole = queue-sized n b slot-count

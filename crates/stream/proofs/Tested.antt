@@ -5,9 +5,7 @@ use mathlib.Core.Option.{none, some}
 use mathlib.Core.List.{List, [], _∷_}
 use Prim.Native.Nat.{ℕ}
 use lib.ListN.{set}
-use borrow.Author.Tests.{not-true, not-false}
 use Rattle.laws.specs.Lists.{isEmpty, isNone}
-use Rattle.laws.proofs.Lists.{decide}
 use Rattle.model.specs.Device.{QueueType, created, queued, Slot, resource, Stream, queueOf, withQueue, withDrain, withSlots, queuedIn, bufferOf, present, noSlot, addResource, setState, freeAll}
 use Rattle.model.specs.Frames.{queueNamed, queueType, resourceId, timestampSent, frameWidth, frameHeight, frameRate}
 use Rattle.model.specs.Answers.{ErrorCode, invalidOperation, outOfMemory, invalidResource, success, parameters}
@@ -17,14 +15,14 @@ use Rattle.model.proofs.Slots.{Distinct}
 use Rattle.words.specs.Search.{slotAt, isQueued, numberIn, findResource, findFree}
 use Rattle.words.proofs.Bridge.{find-present, find-absent, find-number, find-set, find-queued, free-room, free-add, free-none}
 use Rattle.frame.specs.Frame.{goodResource, goodSizes, goodSet}
-use Rattle.frame.specs.Meant.{queueMeant}
-use Rattle.frame.specs.declared.Named.{Named}
 use Rattle.frame.proofs.Commands.{first-hit, first-miss, resource-good, queue-good, set-good}
+use Rattle.stream.specs.declared.Target.{Target}
+use Rattle.stream.specs.Target.{targetQueue}
 use Rattle.stream.specs.Queueing.{shut, Placed}
 
--- the queue that a frame with the queue type n was found to name
-pub named : {r : Named} (n : ℕ) (s : Named) → queueMeant r ≡ queueNamed n → r ≡ s → queueNamed n ≡ queueMeant s
-named n s e is = sym e ∙ ap queueMeant is
+-- the queue that the queue type n, read as k, was found to name
+pub named : {r : Target} {k : ℕ} (n : ℕ) (s : Target) → targetQueue r ≡ queueNamed k → k ≡ n → r ≡ s → queueNamed n ≡ targetQueue s
+named n s e is found = ap queueNamed (sym is) ∙ sym e ∙ ap targetQueue found
 
 -- the end of the tests, and two tests for one error
 first-accept : (c : Request) (v : Reply) → first c (accept v) ≡ v

@@ -1,3 +1,3 @@
 pub mod Replied
+pub mod Target
 pub mod Queueing
-pub mod Done

@@ -4,6 +4,3 @@ pub mod Full
 pub mod Bridge
 pub mod Heads
 pub mod Looked
-pub mod Distinct
-pub mod Stands
-pub mod Good

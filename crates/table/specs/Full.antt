@@ -6,7 +6,7 @@ use mathlib.Core.Option.{some}
 use mathlib.Core.List.{List, [], _∷_, _++_}
 use Rattle.laws.specs.Lists.{allOf}
 use Rattle.model.specs.Numbers.{streamPlaces, queueSlots}
-use Rattle.model.specs.Device.{queued, Slot, resource, Queue, Stream, Place, vacant, occupied, Device, noSlot, noPlace}
+use Rattle.model.specs.Device.{queued, Slot, resource, Queue, Place, vacant, occupied, Device, noSlot, noPlace}
 use Rattle.model.specs.WellFormed.{wellFormed}
 use Rattle.model.specs.Tables.{valid}
 use Rattle.table.specs.Blocks.{encode}

@@ -1,6 +1,5 @@
 pub mod Blocks
 pub mod Layout
 pub mod Search
-pub mod Rules
 pub mod Values
 pub mod Full

@@ -5,9 +5,16 @@ ghost use Rattle.table.specs.Layout.{layout};
 ghost use Rattle.table.specs.Values.{freshened};
 
 mod block;
-mod checks;
 mod search;
 
+pub use block::DRAIN;
+pub use block::FORMAT;
+pub use block::INPUTS;
+pub use block::LIVE;
+pub use block::OUTPUTS;
+pub use block::QUEUES_END;
+pub use block::TICKET;
+pub use block::UNUSED;
 use block::clear;
 pub use block::coded_format;
 pub use block::drain_owed;
@@ -16,9 +23,10 @@ pub use block::free_stream;
 pub use block::new_stream;
 pub use block::queue_start;
 pub use block::set_drain;
-pub use checks::valid;
 pub use search::find_stream;
 pub use search::find_vacant;
+pub use search::is_vacant;
+pub use search::stream_number;
 
 // The used words of a table, its stream places, and the words of one.
 pub const TABLE_WORDS: usize = 4096;

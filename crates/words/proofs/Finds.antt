@@ -11,10 +11,8 @@ use Rattle.laws.specs.Lists.{position}
 use Rattle.laws.specs.Tests.{first}
 use Rattle.laws.proofs.Tests.{never, first-found}
 use Rattle.laws.proofs.Pieces.{position-first}
-use Rattle.model.specs.Device.{created, queued, dequeued, Slot, free, resource, buffer, queuedIn, present}
-use Rattle.model.specs.WellFormed.{distinctSlots}
-use Rattle.words.specs.Search.{slotAt, isFree, isResource, isQueued, numberIn, ticketIn, timestampIn}
-use Rattle.words.specs.Rules.{repeated}
+use Rattle.model.specs.Device.{created, queued, dequeued, Slot, free, resource, buffer, queuedIn}
+use Rattle.words.specs.Search.{slotAt, isQueued, numberIn, ticketIn, timestampIn}
 
 -- the first slot that passes a test
 module _ (p : Slot → Bool) (s : List Slot) (n : ℕ) (long : length s ≡ n) where
@@ -29,22 +27,8 @@ module _ (p : Slot → Bool) (s : List Slot) (n : ℕ) (long : length s ≡ n) w
 
 -- the slots from i on are the slot at i and those behind it
 module _ (s : List Slot) (i : ℕ) (h : i < length s) where
-  from : drop i s ≡ slotAt i s ∷ drop (i + 1) s
+  pub from : drop i s ≡ slotAt i s ∷ drop (i + 1) s
   from = drop-cons s i free h ∙ ap (λ (n : ℕ). slotAt i s ∷ drop n s) (sym (add-one i))
-
-  pub present-here : (r : ℕ) → isResource r (slotAt i s) ≡ true → present r (drop i s) ≡ true
-  present-here r e = ap (present r) from ∙ go (slotAt i s) e
-    where
-      go : (x : Slot) → isResource r x ≡ true → present r (x ∷ drop (i + 1) s) ≡ true
-      go free e = never (sym e)
-      go (resource m p) e = rw e
-
-  pub present-later : (r : ℕ) → isResource r (slotAt i s) ≡ false → present r (drop i s) ≡ present r (drop (i + 1) s)
-  present-later r e = ap (present r) from ∙ go (slotAt i s) e
-    where
-      go : (x : Slot) → isResource r x ≡ false → present r (x ∷ drop (i + 1) s) ≡ present r (drop (i + 1) s)
-      go free e = refl
-      go (resource m p) e = rw e
 
   pub queued-here : isQueued (slotAt i s) ≡ true → queuedIn (drop i s) ≡ buffer (numberIn (slotAt i s)) (ticketIn (slotAt i s)) (timestampIn (slotAt i s)) ∷ queuedIn (drop (i + 1) s)
   queued-here e = ap queuedIn from ∙ go (slotAt i s) e
@@ -63,31 +47,3 @@ module _ (s : List Slot) (i : ℕ) (h : i < length s) where
       go (resource m created) e = refl
       go (resource m (queued t ts)) e = never e
       go (resource m dequeued) e = refl
-
-  pub repeated-free : isFree (slotAt i s) ≡ true → repeated (drop i s) ≡ false
-  repeated-free e = ap repeated from ∙ go (slotAt i s) e
-    where
-      go : (x : Slot) → isFree x ≡ true → repeated (x ∷ drop (i + 1) s) ≡ false
-      go free e = refl
-      go (resource m p) e = never (sym e)
-
-  pub repeated-number : isFree (slotAt i s) ≡ false → repeated (drop i s) ≡ present (numberIn (slotAt i s)) (drop (i + 1) s)
-  repeated-number e = ap repeated from ∙ go (slotAt i s) e
-    where
-      go : (x : Slot) → isFree x ≡ false → repeated (x ∷ drop (i + 1) s) ≡ present (numberIn x) (drop (i + 1) s)
-      go free e = never e
-      go (resource m p) e = refl
-
-  pub distinct-not : repeated (drop i s) ≡ true → distinctSlots (drop i s) ≡ false
-  distinct-not e = ap distinctSlots from ∙ go (slotAt i s) (ap repeated (sym from) ∙ e)
-    where
-      go : (x : Slot) → repeated (x ∷ drop (i + 1) s) ≡ true → distinctSlots (x ∷ drop (i + 1) s) ≡ false
-      go free e = never (sym e)
-      go (resource m p) e = rw e
-
-  pub distinct-later : repeated (drop i s) ≡ false → distinctSlots (drop i s) ≡ distinctSlots (drop (i + 1) s)
-  distinct-later e = ap distinctSlots from ∙ go (slotAt i s) (ap repeated (sym from) ∙ e)
-    where
-      go : (x : Slot) → repeated (x ∷ drop (i + 1) s) ≡ false → distinctSlots (x ∷ drop (i + 1) s) ≡ distinctSlots (drop (i + 1) s)
-      go free e = refl
-      go (resource m p) e = rw e

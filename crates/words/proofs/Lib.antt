@@ -2,5 +2,4 @@ pub mod Records
 pub mod Each
 pub mod Finds
 pub mod Least
-pub mod Stands
 pub mod Bridge

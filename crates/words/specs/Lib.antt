@@ -2,5 +2,4 @@ pub mod Words
 pub mod Search
 pub mod Found
 pub mod Lowest
-pub mod Rules
 pub mod Changes

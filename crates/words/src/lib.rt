@@ -1,7 +1,6 @@
 // Functions on the words of one queue of the device table: four words, and sixteen slots of five (specs/Words).
 // The contracts speak of every queue Q whose words are lent.
 mod changes;
-mod checks;
 mod search;
 mod slots;
 
@@ -13,21 +12,28 @@ pub use changes::rate;
 pub use changes::set_parameters;
 pub use changes::stop_all;
 pub use changes::width;
-pub use checks::all_zero;
-pub use checks::good_extent;
-pub use checks::queue_stands;
-pub use checks::queue_well;
 pub use search::any_queued;
 pub use search::find_free;
 pub use search::find_resource;
 pub use search::next_queued;
+pub use slots::DEQUEUED;
+pub use slots::FIRST_SLOT;
+pub use slots::FREE;
+pub use slots::QUEUED;
+pub use slots::SLOT_SIZE;
+pub use slots::SLOTS;
 pub use slots::set_created;
 pub use slots::set_dequeued;
 pub use slots::set_queued;
+pub use slots::slot_free;
+pub use slots::slot_holds;
 pub use slots::slot_number;
 pub use slots::slot_queued;
 pub use slots::slot_ticket;
 pub use slots::slot_timestamp;
+
+// The words of a queue.
+pub const QUEUE_WORDS: usize = 84;
 
 // The place that a search found.
 pub enum Found {

@@ -1,10 +1,10 @@
 // Searches of a queue's slots.
 ghost use mathlib.Core.Path.{_≡_};
 ghost use mathlib.Core.Bool.{not};
-ghost use Prim.Native.Nat.{_+_, _<_, _≤_};
+ghost use Prim.Native.Nat.{_+_, _<_};
 ghost use lib.ListN.{length, drop};
 ghost use Rattle.laws.specs.Lists.{isEmpty};
-ghost use Rattle.model.specs.Device.{Queue, queuedIn, present};
+ghost use Rattle.model.specs.Device.{Queue, queuedIn};
 ghost use Rattle.words.specs.Words.{queueWords};
 ghost use Rattle.words.specs.Search.{findResource, findFree, nextQueued};
 ghost use Rattle.words.specs.Found.{foundAt, Within};
@@ -109,19 +109,4 @@ fn lower_queued(q: &[u32], k: usize, least: u64, lowest: u64) -> u64
         return lowest;
     }
     number
-}
-
-// Whether the number stands in a slot from `start` on.
-pub fn number_from(q: &[u32], start: usize, number: u32) -> bool
-    requires { ⌜ (length (now q) ≡ 84) × (start ≤ 16) ⌝ }
-    ensures { λ r. ⌜ ((Q : Queue) → now (q .entry) ≡ queueWords Q → r ≡ present number (drop start (Q .slots))) ⌝ }
-{
-    let mut i = start;
-    while i < SLOTS {
-        if slot_holds(q, i, number) {
-            return true;
-        }
-        i += 1;
-    }
-    false
 }

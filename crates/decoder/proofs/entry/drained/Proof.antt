@@ -1,0 +1,69 @@
+-- `decoder::entry::drained` meets its contract: the first tests, then the step.
+use mathlib.Core.Path.{refl}
+use lib.Seq.{length-take-le}
+use Rattle.model.specs.Steps.{drained, streamOf}
+use Rattle.decoder.proofs.Effects.{turned-away, table-words, room-bytes, carried}
+use borrow.Author.Needs.{needs}
+use Rattle.decoder.proofs.entry.drained.Statement.{statement}
+use Rattle.decoder.proofs.entry.drained.Tie as tie
+
+host-refusal-requires : tie.Need-host-refusal-requires
+host-refusal-requires c κs = search needs
+
+refused-requires : tie.Need-refused-requires
+refused-requires c κs = search needs
+
+same-length : tie.Need-same-length
+same-length c = search needs
+
+returns : tie.Need-returns
+returns c =
+    let a = c .before .before .before .before .before .before .args in
+    turned-away (a .table .now) (a .answers .now) _ _ (c .before .before .host-refusal .ensures) (c .before .if1 .taken) (c .refused .ensures)
+
+sub-drained : tie.Need-sub-drained
+sub-drained c = search needs
+
+part-drained-start : tie.Need-part-drained-start
+part-drained-start c = search needs
+
+part-drained-end : tie.Need-part-drained-end
+part-drained-end c =
+    let a = c .before .before .before .before .before .args in
+    table-words (a .table .now) (a .answers .now) (drained (a .stream)) (c .before .host-refusal .ensures) (c .if1 .left)
+
+drained-requires : tie.Need-drained-requires
+drained-requires c κs =
+    let a = c .before .before .before .before .before .before .before .args in
+    let act = drained (a .stream) in
+    let e = c .before .before .before .host-refusal .ensures in
+    let z = c .before .before .if1 .left in
+    (length-take-le 4096 (a .table .now) (table-words (a .table .now) (a .answers .now) act e z), room-bytes (a .table .now) (a .answers .now) act e z)
+
+same-length-2 : tie.Need-same-length-2
+same-length-2 c = search needs
+
+same-length-3 : tie.Need-same-length-3
+same-length-3 c = search needs
+
+returns-2 : tie.Need-returns-2
+unfolding streamOf
+returns-2 c =
+    let a = c .before .before .before .before .before .before .before .before .before .before .before .before .args in
+    carried (a .table .now) (a .answers .now) (drained (a .stream)) (c .before .before .before .before .before .before .before .before .host-refusal .ensures) (c .before .before .before .before .before .before .before .if1 .left) (a .stream) refl (c .before .before .before .before .drained .ensures)
+
+pub drained-spec : {M : Type 1} → statement M
+drained-spec =
+    tie.close
+    (tie.spec
+    host-refusal-requires
+    refused-requires
+    same-length
+    returns
+    sub-drained
+    part-drained-start
+    part-drained-end
+    drained-requires
+    same-length-2
+    same-length-3
+    returns-2)

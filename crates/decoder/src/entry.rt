@@ -1,0 +1,104 @@
+// The entries: the host's first tests, then the step on the used words of the table. What stands behind them is never lent on.
+ghost use mathlib.Core.Path.{_≡_};
+ghost use lib.ListN.{length};
+ghost use Rattle.model.specs.Steps.{command, finish, drained, hostRefusal};
+ghost use Rattle.model.specs.Tables.{valid, effect};
+ghost use Rattle.table.specs.Layout.{layout};
+ghost use Rattle.decoder.specs.Entry.{asEffect};
+use pending::Outcome;
+
+// The bytes of the answer room that a step must be lent, and of a command's header.
+const ANSWER_ROOM: usize = 1056;
+
+const HEADER: usize = 8;
+
+// The refusals of the host's first tests, and of a command without a whole header.
+const SHORT_TABLE: u32 = 1;
+
+const INVALID_TABLE: u32 = 2;
+
+const SHORT_ROOM: u32 = 3;
+
+const SHORT_COMMAND: u32 = 4;
+
+// A command.
+pub fn command(table: &mut [u32], ticket: u32, frame: &[u8], answers: &mut [u8]) -> Outcome
+    ensures { λ r. ⌜ asEffect r (now (table .exit)) (now (answers .exit)) ≡ effect layout (now (table .entry)) (command ticket (now (frame .entry))) (now (answers .entry)) ⌝ }
+{
+    let refusal = host_refusal(table, answers.len());
+    if refusal != 0 {
+        return refused(refusal);
+    }
+    if frame.len() < HEADER {
+        return refused(SHORT_COMMAND);
+    }
+    let written = steps::command(&mut table[0..table::TABLE_WORDS], ticket, frame, answers);
+    Outcome {
+        refusal: 0,
+        written: written as u32,
+    }
+}
+
+// A finish report.
+pub fn finish(
+    table: &mut [u32],
+    stream: u32,
+    kind: u32,
+    resource: u32,
+    flags: u32,
+    timestamp: u64,
+    answers: &mut [u8],
+) -> Outcome
+    ensures { λ r. ⌜ asEffect r (now (table .exit)) (now (answers .exit)) ≡ effect layout (now (table .entry)) (finish stream kind resource flags timestamp) (now (answers .entry)) ⌝ }
+{
+    let refusal = host_refusal(table, answers.len());
+    if refusal != 0 {
+        return refused(refusal);
+    }
+    steps::finish(
+        &mut table[0..table::TABLE_WORDS],
+        stream,
+        kind,
+        resource,
+        flags,
+        timestamp,
+        answers,
+    )
+}
+
+// A drained report.
+pub fn drained(table: &mut [u32], stream: u32, answers: &mut [u8]) -> Outcome
+    ensures { λ r. ⌜ asEffect r (now (table .exit)) (now (answers .exit)) ≡ effect layout (now (table .entry)) (drained stream) (now (answers .entry)) ⌝ }
+{
+    let refusal = host_refusal(table, answers.len());
+    if refusal != 0 {
+        return refused(refusal);
+    }
+    steps::drained(&mut table[0..table::TABLE_WORDS], stream, answers)
+}
+
+// The host's first tests, in their order: the table's words, the room's bytes, the table's validity; 0 if none hits.
+fn host_refusal(table: &[u32], room: usize) -> u32
+    ensures { λ r. ⌜ r ≡ hostRefusal (length (now (table .entry))) room (valid layout (now (table .entry))) ⌝ }
+{
+    if table.len() < table::TABLE_WORDS {
+        return SHORT_TABLE;
+    }
+    if room < ANSWER_ROOM {
+        return SHORT_ROOM;
+    }
+    if !valid::valid(&table[0..table::TABLE_WORDS]) {
+        return INVALID_TABLE;
+    }
+    0
+}
+
+// A refusal: nothing is written.
+fn refused(number: u32) -> Outcome
+    ensures { λ r. ⌜ (r .refusal ≡ number) × (r .written ≡ 0) ⌝ }
+{
+    Outcome {
+        refusal: number,
+        written: 0,
+    }
+}

@@ -1,0 +1,60 @@
+// The command core of a virtio-video decoder, for a host that links it: four entries, safe on any bytes and words. Each states its whole
+// outcome by one equation to the model: `freshen` and `effect` of crates/model/specs/Tables, over the layout of crates/table/specs/Layout.
+ghost use mathlib.Core.Path.{_≡_};
+ghost use Rattle.model.specs.Steps.{command, finish, drained};
+ghost use Rattle.model.specs.Tables.{freshen, effect};
+ghost use Rattle.table.specs.Layout.{layout};
+ghost use Rattle.table.specs.Values.{freshened};
+ghost use Rattle.decoder.specs.Entry.{asEffect};
+use pending::Outcome;
+
+mod entry;
+
+// Makes a table fresh: the first 4,096 words are those of no stream.
+#[no_mangle]
+pub extern "C" fn virtio_video_fresh(table: &mut [u32]) -> u32
+    ensures { λ r. ⌜ freshened r (now (table .exit)) ≡ freshen layout (now (table .entry)) ⌝ }
+{
+    table::fresh(table)
+}
+
+// A command of the guest, under a ticket: its answers, and those to what it stops, are written to the room.
+#[no_mangle]
+pub extern "C" fn virtio_video_command(
+    table: &mut [u32],
+    ticket: u32,
+    frame: &[u8],
+    answers: &mut [u8],
+) -> Outcome
+    ensures { λ r. ⌜ asEffect r (now (table .exit)) (now (answers .exit)) ≡ effect layout (now (table .entry)) (command ticket (now (frame .entry))) (now (answers .entry)) ⌝ }
+{
+    entry::command(table, ticket, frame, answers)
+}
+
+// The back end reports that it has finished a buffer: its answer is written to the room.
+#[no_mangle]
+pub extern "C" fn virtio_video_finish(
+    table: &mut [u32],
+    stream: u32,
+    kind: u32,
+    resource: u32,
+    flags: u32,
+    timestamp: u64,
+    answers: &mut [u8],
+) -> Outcome
+    ensures { λ r. ⌜ asEffect r (now (table .exit)) (now (answers .exit)) ≡ effect layout (now (table .entry)) (finish stream kind resource flags timestamp) (now (answers .entry)) ⌝ }
+{
+    entry::finish(table, stream, kind, resource, flags, timestamp, answers)
+}
+
+// The back end reports that it has drained a stream: the owed answer is written to the room.
+#[no_mangle]
+pub extern "C" fn virtio_video_drained(
+    table: &mut [u32],
+    stream: u32,
+    answers: &mut [u8],
+) -> Outcome
+    ensures { λ r. ⌜ asEffect r (now (table .exit)) (now (answers .exit)) ≡ effect layout (now (table .entry)) (drained stream) (now (answers .entry)) ⌝ }
+{
+    entry::drained(table, stream, answers)
+}

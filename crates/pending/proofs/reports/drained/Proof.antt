@@ -1,0 +1,108 @@
+-- `pending::drained` meets its contract: by whether a drain is owed and an input is Queued.
+use mathlib.Core.Path.{refl, sym, ap, _∙_}
+use native.Mathlib.Omega.{arith}
+use borrow.Author.Tests.{not-true, not-false}
+use borrow.Author.Needs.{needs}
+use Rattle.model.specs.Device.{input}
+use Rattle.model.specs.Answers.{drainDone}
+use Rattle.table.specs.Values.{drainOf}
+use Rattle.answer.proofs.Laws.{wrote-plain}
+use Rattle.stream.proofs.Steps.{queue-words}
+use Rattle.pending.proofs.Ends.{refused-done, answered-done, drained-none, drained-busy, drained-ends, plain-next}
+use Rattle.pending.proofs.reports.drained.Statement.{statement}
+use Rattle.pending.proofs.reports.drained.Tie as tie
+
+drain-owed-requires : tie.Need-drain-owed-requires
+drain-owed-requires c κs = search needs
+
+enum-known-drain : tie.Need-enum-known-drain
+enum-known-drain c = search needs
+
+enum-told : tie.Need-enum-told
+enum-told c = search needs
+
+same-length : tie.Need-same-length
+same-length c = search needs
+
+returns : tie.Need-returns
+returns c b h = refused-done h (drained-none (c .before .before .before .before .before .before .args .stream) b (ap drainOf (sym (c .enum-told .given .1)) ∙ c .before .before .drain-owed .ensures (c .before .before .before .before .before .before .args .stream) b (h .held)))
+
+queue-start-requires : tie.Need-queue-start-requires
+queue-start-requires c κs = search needs
+
+add-any-queued : tie.Need-add-any-queued
+add-any-queued c = search needs
+
+mul-any-queued : tie.Need-mul-any-queued
+mul-any-queued c = search needs
+
+sub-any-queued : tie.Need-sub-any-queued
+sub-any-queued c = search needs
+
+part-any-queued-start : tie.Need-part-any-queued-start
+part-any-queued-start c = search needs
+
+part-any-queued-end : tie.Need-part-any-queued-end
+part-any-queued-end c = search needs
+
+any-queued-requires : tie.Need-any-queued-requires
+any-queued-requires c κs = search needs
+
+same-length-2 : tie.Need-same-length-2
+same-length-2 c = search needs
+
+returns-2 : tie.Need-returns-2
+returns-2 c b h =
+    let n = c .before .before .before .before .before .before .before .before .before .before .before .before .args .stream in
+    refused-done h
+    (drained-busy n b _ (ap drainOf (sym (c .before .before .before .before .before .before .drain .given .1)) ∙ c .before .before .before .before .before .before .before .before .drain-owed .ensures n b (h .held))
+    (not-true _ (sym (c .before .any-queued .ensures (b .inputs) (queue-words h input _ (c .before .before .before .before .queue-start .ensures .1))) ∙ c .if1 .taken)))
+
+drop-drain-requires : tie.Need-drop-drain-requires
+drop-drain-requires c κs = search needs
+
+put-plain-requires : tie.Need-put-plain-requires
+put-plain-requires c κs = search needs
+
+cast-t23 : tie.Need-cast-t23
+cast-t23 c = omega (arith, plain-next _ _ _ (c .before .before .put-plain .ensures))
+
+same-length-3 : tie.Need-same-length-3
+same-length-3 c = search needs
+
+same-length-4 : tie.Need-same-length-4
+same-length-4 c = search needs
+
+returns-3 : tie.Need-returns-3
+returns-3 c b h =
+    let n = c .before .before .before .before .before .before .before .before .before .before .before .before .before .before .before .before .before .before .before .before .args .stream in
+    answered-done _ _
+    (drained-ends n b _ (ap drainOf (sym (c .before .before .before .before .before .before .before .before .before .before .before .before .before .before .drain .given .1)) ∙ c .before .before .before .before .before .before .before .before .before .before .before .before .before .before .before .before .drain-owed .ensures n b (h .held))
+    (not-false _ (sym (c .before .before .before .before .before .before .before .before .before .any-queued .ensures (b .inputs) (queue-words h input _ (c .before .before .before .before .before .before .before .before .before .before .before .before .queue-start .ensures .1))) ∙ c .before .before .before .before .before .before .before .before .if1 .left)))
+    (c .before .before .before .before .before .before .drop-drain .ensures n b (h .held))
+    (wrote-plain _ n 0x0200 drainDone refl (c .before .before .put-plain .ensures))
+
+pub drained-spec : {M : Type 1} → statement M
+drained-spec =
+    tie.close
+    (tie.spec
+    drain-owed-requires
+    enum-known-drain
+    enum-told
+    same-length
+    returns
+    queue-start-requires
+    add-any-queued
+    mul-any-queued
+    sub-any-queued
+    part-any-queued-start
+    part-any-queued-end
+    any-queued-requires
+    same-length-2
+    returns-2
+    drop-drain-requires
+    put-plain-requires
+    cast-t23
+    same-length-3
+    same-length-4
+    returns-3)

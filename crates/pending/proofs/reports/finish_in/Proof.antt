@@ -1,0 +1,86 @@
+-- `pending::finish_in` meets its contract: by what the search finds.
+use mathlib.Core.Path.{sym, ap, _∙_}
+use borrow.Author.Needs.{needs}
+use Rattle.model.specs.Device.{queueOf}
+use Rattle.words.specs.Found.{foundAt}
+use Rattle.table.specs.Values.{queueTypeOf}
+use Rattle.stream.proofs.Steps.{queue-words}
+use Rattle.pending.proofs.Ends.{refused-done, finish-absent, within-at}
+use Rattle.pending.proofs.reports.finish_in.Statement.{statement}
+use Rattle.pending.proofs.reports.finish_in.Tie as tie
+
+queue-start-requires : tie.Need-queue-start-requires
+queue-start-requires c κs = search needs
+
+add-find-resource : tie.Need-add-find-resource
+add-find-resource c = search needs
+
+mul-find-resource : tie.Need-mul-find-resource
+mul-find-resource c = search needs
+
+sub-find-resource : tie.Need-sub-find-resource
+sub-find-resource c = search needs
+
+part-find-resource-start : tie.Need-part-find-resource-start
+part-find-resource-start c = search needs
+
+part-find-resource-end : tie.Need-part-find-resource-end
+part-find-resource-end c = search needs
+
+find-resource-requires : tie.Need-find-resource-requires
+find-resource-requires c κs = search needs
+
+enum-known-found : tie.Need-enum-known-found
+enum-known-found c = search needs
+
+enum-told : tie.Need-enum-told
+enum-told c = search needs
+
+same-length : tie.Need-same-length
+same-length c = search needs
+
+returns : tie.Need-returns
+returns c b h =
+    let s = c .before .before .before .before .before .before .before .before in
+    let n = s .args .stream in
+    let q = queueTypeOf (s .args .queue) in
+    refused-done h
+    (finish-absent n (s .args .resource) (s .args .flags) (s .args .timestamp) b q
+    (sym (c .before .before .find-resource .ensures .1 (queueOf q b) (queue-words h q _ (c .before .before .before .before .before .queue-start .ensures .1))) ∙ ap foundAt (c .enum-told .given .1)))
+
+finish-slot-requires : tie.Need-finish-slot-requires
+finish-slot-requires c κs = (search needs, within-at 16 (c .before .before .before .found .given .1) (c .before .before .before .before .before .find-resource .ensures .0), search needs)
+
+same-length-2 : tie.Need-same-length-2
+same-length-2 c = search needs
+
+same-length-3 : tie.Need-same-length-3
+same-length-3 c = search needs
+
+returns-2 : tie.Need-returns-2
+returns-2 c b h =
+    let s = c .before .before .before .before .before .before .before .before .before .before .before .before .before .before .before .before in
+    let n = s .args .stream in
+    let q = queueTypeOf (s .args .queue) in
+    c .before .before .before .before .finish-slot .ensures b (s .args .resource) h
+    (sym (c .before .before .before .before .before .before .before .before .before .before .find-resource .ensures .1 (queueOf q b) (queue-words h q _ (c .before .before .before .before .before .before .before .before .before .before .before .before .before .queue-start .ensures .1))) ∙ ap foundAt (c .before .before .before .before .before .before .before .before .found .given .1))
+
+pub finish-in-spec : {M : Type 1} → statement M
+finish-in-spec =
+    tie.close
+    (tie.spec
+    queue-start-requires
+    add-find-resource
+    mul-find-resource
+    sub-find-resource
+    part-find-resource-start
+    part-find-resource-end
+    find-resource-requires
+    enum-known-found
+    enum-told
+    same-length
+    returns
+    finish-slot-requires
+    same-length-2
+    same-length-3
+    returns-2)

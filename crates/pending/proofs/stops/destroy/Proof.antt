@@ -1,0 +1,31 @@
+-- `pending::destroy` meets its contract: answers first, then the block is freed.
+use mathlib.Core.Option.{none}
+use borrow.Author.Needs.{needs}
+use Rattle.pending.specs.Done.{destroyAnswers}
+use Rattle.stream.proofs.Steps.{replied}
+use Rattle.pending.proofs.Ends.{destroy-is}
+use Rattle.pending.proofs.stops.destroy.Statement.{statement}
+use Rattle.pending.proofs.stops.destroy.Tie as tie
+
+destroy-answers-requires : tie.Need-destroy-answers-requires
+destroy-answers-requires c κs = search needs
+
+free-stream-requires : tie.Need-free-stream-requires
+free-stream-requires c κs = search needs
+
+same-length : tie.Need-same-length
+same-length c = search needs
+
+same-length-2 : tie.Need-same-length-2
+same-length-2 c = search needs
+
+returns : tie.Need-returns
+returns c b h =
+    let s = c .before .before .before .before .before .before .before .before .before .before .before .before in
+    replied (destroyAnswers (s .args .stream) (s .args .ticket) b) none (destroy-is (s .args .stream) (s .args .ticket) (s .args .frame .now) b)
+    (c .before .before .free-stream .ensures) (c .before .before .before .before .before .before .destroy-answers .ensures _ b h)
+
+pub destroy-spec : {M : Type 1} → statement M
+destroy-spec =
+    tie.close
+    (tie.spec destroy-answers-requires free-stream-requires same-length same-length-2 returns)

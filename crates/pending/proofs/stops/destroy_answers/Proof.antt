@@ -1,0 +1,48 @@
+-- `pending::destroy_answers` meets its contract: four runs of answers, one after the other.
+use mathlib.Core.Path.{refl}
+use mathlib.Core.List.{[], _∷_, _++_}
+use borrow.Author.Needs.{needs}
+use Rattle.model.specs.Device.{input, output, buffers}
+use Rattle.model.specs.Answers.{success}
+use Rattle.model.specs.Commands.{stoppedAnswers, drainAnswers}
+use Rattle.answer.specs.Answer.{answerTo}
+use Rattle.answer.proofs.Laws.{wrote-plain}
+use Rattle.pending.proofs.Ends.{wrote-more}
+use Rattle.pending.proofs.stops.destroy_answers.Statement.{statement}
+use Rattle.pending.proofs.stops.destroy_answers.Tie as tie
+
+stop-queue-requires : tie.Need-stop-queue-requires
+stop-queue-requires c κs = search needs
+
+stop-queue-requires-2 : tie.Need-stop-queue-requires-2
+stop-queue-requires-2 c κs = search needs
+
+drain-answer-requires : tie.Need-drain-answer-requires
+drain-answer-requires c κs = search needs
+
+put-plain-requires : tie.Need-put-plain-requires
+put-plain-requires c κs = search needs
+
+same-length : tie.Need-same-length
+same-length c = search needs
+
+returns : tie.Need-returns
+returns c n b h =
+    let s = c .before .before .before .before .before .before .before .before .before .before .before .before .before .before .before .before .before .before in
+    let outputs = stoppedAnswers (s .args .stream) output (buffers output b) in
+    let drain = drainAnswers (s .args .stream) (b .draining) in
+    let itself = answerTo (s .args .ticket) (s .args .stream) success ∷ [] in
+    wrote-more (stoppedAnswers (s .args .stream) input (buffers input b)) (outputs ++ (drain ++ itself)) (c .before .before .before .before .before .before .before .before .before .before .before .before .before .before .stop-queue .ensures .1 n b h)
+    (wrote-more outputs (drain ++ itself) (c .before .before .before .before .before .before .before .before .before .before .stop-queue2 .ensures .1 n b h)
+    (wrote-more drain itself (c .before .before .before .before .before .before .drain-answer .ensures .1 n b h) (wrote-plain (s .args .ticket) (s .args .stream) 0x0200 success refl (c .before .before .put-plain .ensures))))
+
+pub destroy-answers-spec : {M : Type 1} → statement M
+destroy-answers-spec =
+    tie.close
+    (tie.spec
+    stop-queue-requires
+    stop-queue-requires-2
+    drain-answer-requires
+    put-plain-requires
+    same-length
+    returns)

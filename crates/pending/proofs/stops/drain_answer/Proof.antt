@@ -1,0 +1,44 @@
+-- `pending::drain_answer` meets its contract: by whether a drain is owed.
+use mathlib.Core.Path.{sym, ap, _∙_}
+use native.Mathlib.Omega.{arith}
+use borrow.Author.Needs.{needs}
+use Rattle.table.specs.Values.{drainOf}
+use Rattle.pending.proofs.Ends.{plain-next, wrote-drain, wrote-settled}
+use Rattle.pending.proofs.stops.drain_answer.Statement.{statement}
+use Rattle.pending.proofs.stops.drain_answer.Tie as tie
+
+drain-owed-requires : tie.Need-drain-owed-requires
+drain-owed-requires c κs = search needs
+
+enum-known-drain : tie.Need-enum-known-drain
+enum-known-drain c = search needs
+
+enum-told : tie.Need-enum-told
+enum-told c = search needs
+
+returns : tie.Need-returns
+returns c = (omega arith, λ n b h. wrote-settled _ _ _ _ (ap drainOf (sym (c .enum-told .given .1)) ∙ c .before .before .drain-owed .ensures n b (h .held)))
+
+put-plain-requires : tie.Need-put-plain-requires
+put-plain-requires c κs = search needs
+
+same-length : tie.Need-same-length
+same-length c = search needs
+
+returns-2 : tie.Need-returns-2
+returns-2 c = (
+  omega (arith, plain-next _ _ _ (c .before .before .put-plain .ensures)),
+  λ n b h. wrote-drain _ _ (b .draining) (ap drainOf (sym (c .before .before .before .before .before .drain .given .1)) ∙ c .before .before .before .before .before .before .before .drain-owed .ensures n b (h .held)) (c .before .before .put-plain .ensures),
+)
+
+pub drain-answer-spec : {M : Type 1} → statement M
+drain-answer-spec =
+    tie.close
+    (tie.spec
+    drain-owed-requires
+    enum-known-drain
+    enum-told
+    returns
+    put-plain-requires
+    same-length
+    returns-2)

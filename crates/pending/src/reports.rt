@@ -1,0 +1,187 @@
+// The back end's reports: each ends the wait of one buffer or of a drain.
+ghost use mathlib.Core.Path.{_≡_};
+ghost use mathlib.Core.Bool.{true, false};
+ghost use mathlib.Core.Option.{some};
+ghost use Prim.Native.Nat.{ℕ, _+_, _<_, _≤_};
+ghost use lib.ListN.{length};
+ghost use Rattle.model.specs.Device.{Queue, Stream, Buffer, queueOf, queuedIn, bufferOf};
+ghost use Rattle.model.specs.Reports.{timestampOf, badEos, finishBuffer, onFinish, onDrained};
+ghost use Rattle.words.specs.Words.{queueWords};
+ghost use Rattle.words.specs.Search.{slotAt, isQueued, timestampIn, findResource};
+ghost use Rattle.table.specs.Values.{queueTypeOf};
+ghost use Rattle.stream.specs.Replied.{Holds};
+ghost use Rattle.pending.specs.Done.{Done};
+use crate::Outcome;
+use answer::OK;
+use stream::Target;
+use table::Drain;
+use table::QueueName;
+use words::Found;
+use words::QUEUE_WORDS;
+
+// The flag of the end of a stream, and all the flags there are.
+const EOS: u32 = 2;
+
+const ALL_FLAGS: u32 = 3;
+
+// A drained report: an owed drain is answered where no input is Queued.
+pub fn drained(block: &mut [u32], stream: u32, room: &mut [u8]) -> Outcome
+    requires { ⌜ (length (now block) ≡ 512) × (1056 ≤ length (now room)) ⌝ }
+    ensures { λ r. ⌜ ((b : Stream) → Holds stream (now (block .entry)) b → Done stream (onDrained stream (some b)) (now (block .exit)) (now (room .entry)) (now (room .exit)) (r .refusal) (r .written)) ⌝ }
+{
+    let drain = table::drain_owed(block);
+    let Drain::Owed(ticket) = drain else {
+        return Outcome {
+            refusal: 5,
+            written: 0,
+        };
+    };
+    let at = table::queue_start(QueueName::Input);
+    if words::any_queued(&block[at..at + QUEUE_WORDS]) {
+        return Outcome {
+            refusal: 5,
+            written: 0,
+        };
+    }
+    table::drop_drain(block);
+    let written = answer::put_plain(room, 0, ticket, OK, stream);
+    Outcome {
+        refusal: 0,
+        written: written as u32,
+    }
+}
+
+// A finish report: a Queued buffer is answered and becomes Dequeued.
+pub fn finish(
+    block: &mut [u32],
+    stream: u32,
+    kind: u32,
+    resource: u32,
+    flags: u32,
+    ts: u64,
+    room: &mut [u8],
+) -> Outcome
+    requires { ⌜ (length (now block) ≡ 512) × (1056 ≤ length (now room)) ⌝ }
+    ensures { λ r. ⌜ ((b : Stream) → Holds stream (now (block .entry)) b → Done stream (onFinish stream kind resource flags ts (some b)) (now (block .exit)) (now (room .entry)) (now (room .exit)) (r .refusal) (r .written)) ⌝ }
+{
+    if ALL_FLAGS < flags {
+        return Outcome {
+            refusal: 6,
+            written: 0,
+        };
+    }
+    let target = stream::queue_of(kind);
+    let Target::One(queue) = target else {
+        return Outcome {
+            refusal: 5,
+            written: 0,
+        };
+    };
+    finish_in(block, queue, stream, resource, flags, ts, room)
+}
+
+// A finish of the resource of that number in a queue.
+fn finish_in(
+    block: &mut [u32],
+    queue: QueueName,
+    stream: u32,
+    resource: u32,
+    flags: u32,
+    timestamp: u64,
+    room: &mut [u8],
+) -> Outcome
+    requires { ⌜ (length (now block) ≡ 512) × (1056 ≤ length (now room)) ⌝ }
+    ensures { λ r. ⌜ ((b : Stream) → Holds stream (now (block .entry)) b → Done stream (finishBuffer stream resource flags timestamp b (queueTypeOf queue) (bufferOf resource (queuedIn (queueOf (queueTypeOf queue) b .slots)))) (now (block .exit)) (now (room .entry)) (now (room .exit)) (r .refusal) (r .written)) ⌝ }
+{
+    let at = table::queue_start(queue);
+    let found = words::find_resource(&block[at..at + QUEUE_WORDS], resource);
+    let Found::At(k) = found else {
+        return Outcome {
+            refusal: 5,
+            written: 0,
+        };
+    };
+    finish_slot(block, queue, k, stream, flags, timestamp, room)
+}
+
+// A finish of the resource in slot k of a queue.
+fn finish_slot(
+    block: &mut [u32],
+    queue: QueueName,
+    k: usize,
+    stream: u32,
+    flags: u32,
+    timestamp: u64,
+    room: &mut [u8],
+) -> Outcome
+    requires { ⌜ (length (now block) ≡ 512) × (k < 16) × (1056 ≤ length (now room)) ⌝ }
+    ensures { λ r. ⌜ ((b : Stream) (m : ℕ) → Holds stream (now (block .entry)) b → findResource m (queueOf (queueTypeOf queue) b .slots) ≡ some k → Done stream (finishBuffer stream m flags timestamp b (queueTypeOf queue) (bufferOf m (queuedIn (queueOf (queueTypeOf queue) b .slots)))) (now (block .exit)) (now (room .entry)) (now (room .exit)) (r .refusal) (r .written)) ⌝ }
+{
+    let at = table::queue_start(queue);
+    if !words::slot_queued(&block[at..at + QUEUE_WORDS], k) {
+        return Outcome {
+            refusal: 5,
+            written: 0,
+        };
+    }
+    if bad_eos(block, queue, flags) {
+        return Outcome {
+            refusal: 6,
+            written: 0,
+        };
+    }
+    answer_slot(block, queue, k, stream, flags, timestamp, room)
+}
+
+// Whether the flags have EOS on an input, or with no drain owed.
+fn bad_eos(block: &[u32], queue: QueueName, flags: u32) -> bool
+    requires { ⌜ length (now block) ≡ 512 ⌝ }
+    ensures { λ r. ⌜ ((n : ℕ) (b : Stream) → Holds n (now (block .entry)) b → r ≡ badEos flags (queueTypeOf queue) b) ⌝ }
+{
+    if flags < EOS {
+        return false;
+    }
+    let QueueName::Output = queue else {
+        return true;
+    };
+    let drain = table::drain_owed(block);
+    let Drain::Owed(_) = drain else {
+        return true;
+    };
+    false
+}
+
+// Answers the Queued buffer in slot k, which becomes Dequeued.
+fn answer_slot(
+    block: &mut [u32],
+    queue: QueueName,
+    k: usize,
+    stream: u32,
+    flags: u32,
+    timestamp: u64,
+    room: &mut [u8],
+) -> Outcome
+    requires { ⌜ (length (now block) ≡ 512) × (k < 16) × (1056 ≤ length (now room)) ⌝ }
+    ensures { λ r. ⌜ ((b : Stream) (m : ℕ) → Holds stream (now (block .entry)) b → findResource m (queueOf (queueTypeOf queue) b .slots) ≡ some k → isQueued (slotAt k (queueOf (queueTypeOf queue) b .slots)) ≡ true → badEos flags (queueTypeOf queue) b ≡ false → Done stream (finishBuffer stream m flags timestamp b (queueTypeOf queue) (bufferOf m (queuedIn (queueOf (queueTypeOf queue) b .slots)))) (now (block .exit)) (now (room .entry)) (now (room .exit)) (r .refusal) (r .written)) ⌝ }
+{
+    let at = table::queue_start(queue);
+    let ticket = words::slot_ticket(&block[at..at + QUEUE_WORDS], k);
+    let told = timestamp_in(&block[at..at + QUEUE_WORDS], queue, k, timestamp);
+    words::set_dequeued(&mut block[at..at + QUEUE_WORDS], k);
+    let written = answer::put_buffer(room, 0, ticket, stream, told, flags);
+    Outcome {
+        refusal: 0,
+        written: written as u32,
+    }
+}
+
+// The timestamp that a finish answers with: an input's own, an output's the report's.
+fn timestamp_in(q: &[u32], queue: QueueName, k: usize, timestamp: u64) -> u64
+    requires { ⌜ (length (now q) ≡ 84) × (k < 16) ⌝ }
+    ensures { λ r. ⌜ ((Q : Queue) (i : Buffer) → now (q .entry) ≡ queueWords Q → i .timestamp ≡ timestampIn (slotAt k (Q .slots)) → r ≡ timestampOf (queueTypeOf queue) i timestamp) ⌝ }
+{
+    let QueueName::Input = queue else {
+        return timestamp;
+    };
+    words::slot_timestamp(q, k)
+}

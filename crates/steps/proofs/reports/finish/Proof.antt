@@ -1,0 +1,95 @@
+-- `steps::reports::finish` meets its contract: flags, then the stream, then its block.
+use native.Mathlib.Omega.{arith}
+use Rattle.model.specs.Steps.{finish, around, serve}
+use Rattle.steps.proofs.Reported.{bad-flags, no-stream}
+use Rattle.steps.proofs.Served.{denied, in-block, found-within, was-found, was-missing}
+use borrow.Author.Needs.{needs}
+use Rattle.steps.proofs.reports.finish.Statement.{statement}
+use Rattle.steps.proofs.reports.finish.Tie as tie
+
+refused-requires : tie.Need-refused-requires
+refused-requires c κs = search needs
+
+returns : tie.Need-returns
+returns c d h =
+    let a = c .before .before .before .before .args in
+    denied h _ (a .stream) _ 6 (c .refused .ensures) (bad-flags (around d) (a .stream) (a .kind) (a .resource) (a .flags) (a .timestamp) _ (c .before .if1 .taken))
+
+find-stream-requires : tie.Need-find-stream-requires
+find-stream-requires c κs = search needs
+
+enum-known-found : tie.Need-enum-known-found
+enum-known-found c = search needs
+
+enum-told : tie.Need-enum-told
+enum-told c = search needs
+
+refused-requires-2 : tie.Need-refused-requires-2
+refused-requires-2 c κs = search needs
+
+same-length : tie.Need-same-length
+same-length c = search needs
+
+returns-2 : tie.Need-returns-2
+returns-2 c d h =
+    let a = c .before .before .before .before .before .before .before .before .args in
+    denied h _ (a .stream) _ 5 (c .refused2 .ensures) (no-stream (around d) (a .stream) (a .kind) (a .resource) (a .flags) (a .timestamp) _ (c .before .before .before .before .before .if1 .left) (was-missing h (c .before .before .before .find-stream .ensures .1) (c .before .enum-told .given .1)))
+
+mul-at : tie.Need-mul-at
+mul-at c = omega (arith, found-within (c .before .found .given .1) (c .before .before .before .find-stream .ensures .0))
+
+add-finish : tie.Need-add-finish
+add-finish c = omega (arith, found-within (c .before .found .given .1) (c .before .before .before .find-stream .ensures .0))
+
+mul-finish : tie.Need-mul-finish
+mul-finish c = omega (arith, found-within (c .before .found .given .1) (c .before .before .before .find-stream .ensures .0))
+
+sub-finish : tie.Need-sub-finish
+sub-finish c = search needs
+
+part-finish-start : tie.Need-part-finish-start
+part-finish-start c = search needs
+
+part-finish-end : tie.Need-part-finish-end
+part-finish-end c = omega (arith, found-within (c .before .found .given .1) (c .before .before .before .find-stream .ensures .0))
+
+finish-requires : tie.Need-finish-requires
+finish-requires c κs = search needs
+
+same-length-2 : tie.Need-same-length-2
+same-length-2 c = search needs
+
+same-length-3 : tie.Need-same-length-3
+same-length-3 c = search needs
+
+returns-3 : tie.Need-returns-3
+unfolding serve
+returns-3 c d h =
+    let a = c .before .before .before .before .before .before .before .before .before .before .before .before .before .before .before in
+    let s = c .before .before .before .before .before .before .before .before .before .before .find-stream .ensures in
+    let e = c .before .before .before .before .before .before .before .before .found .given .1 in
+    in-block h (a .pre .0) (a .args .stream) _ (found-within e (s .0)) (was-found h (s .1) _ e) (finish (a .args .stream) (a .args .kind) (a .args .resource) (a .args .flags) (a .args .timestamp))
+    (c .before .before .before .before .finish .ensures)
+
+pub finish-spec : {M : Type 1} → statement M
+finish-spec =
+    tie.close
+    (tie.spec
+    refused-requires
+    returns
+    find-stream-requires
+    enum-known-found
+    enum-told
+    refused-requires-2
+    same-length
+    returns-2
+    mul-at
+    add-finish
+    mul-finish
+    sub-finish
+    part-finish-start
+    part-finish-end
+    finish-requires
+    same-length-2
+    same-length-3
+    returns-3)

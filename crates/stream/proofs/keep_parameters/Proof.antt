@@ -1,0 +1,33 @@
+-- `stream::keep_parameters` meets its contract: what was read is kept.
+use borrow.Author.Needs.{needs}
+use Rattle.stream.proofs.keep_parameters.Statement.{statement}
+use Rattle.stream.proofs.keep_parameters.Tie as tie
+
+frame-width-requires : tie.Need-frame-width-requires
+frame-width-requires c κs = search needs
+
+frame-height-requires : tie.Need-frame-height-requires
+frame-height-requires c κs = search needs
+
+frame-rate-requires : tie.Need-frame-rate-requires
+frame-rate-requires c κs = search needs
+
+set-parameters-requires : tie.Need-set-parameters-requires
+set-parameters-requires c κs = search needs
+
+same-length : tie.Need-same-length
+same-length c = search needs
+
+returns : tie.Need-returns
+returns c Q e = rw (← (c .before .before .before .before .before .before .frame-width .ensures), ← (c .before .before .before .before .before .frame-height .ensures), ← (c .before .before .before .before .frame-rate .ensures)) (c .before .before .set-parameters .ensures Q e)
+
+pub keep-parameters-spec : {M : Type 1} → statement M
+keep-parameters-spec =
+    tie.close
+    (tie.spec
+    frame-width-requires
+    frame-height-requires
+    frame-rate-requires
+    set-parameters-requires
+    same-length
+    returns)

@@ -1,0 +1,110 @@
+-- `stream::queue_slot` meets its contract: a Queued buffer refuses, and otherwise the queue comes back with the buffer in its slot.
+use mathlib.Core.Path.{sym, _∙_}
+use denote.Ref.{now}
+use borrow.Author.Needs.{needs}
+use Rattle.model.specs.Device.{queueOf}
+use Rattle.model.specs.Answers.{invalidOperation}
+use Rattle.table.specs.Values.{queueTypeOf}
+use Rattle.stream.specs.Replied.{asked}
+use Rattle.stream.proofs.Steps.{apart, queue-words, queue-back, failed, silent}
+use Rattle.stream.proofs.Tested.{queueing-again, queueing-new}
+use Rattle.stream.proofs.queue_slot.Statement.{statement}
+use Rattle.stream.proofs.queue_slot.Tie as tie
+
+queue-start-requires : tie.Need-queue-start-requires
+queue-start-requires c κs = search needs
+
+add-slot-queued : tie.Need-add-slot-queued
+add-slot-queued c = search needs
+
+mul-slot-queued : tie.Need-mul-slot-queued
+mul-slot-queued c = search needs
+
+sub-slot-queued : tie.Need-sub-slot-queued
+sub-slot-queued c = search needs
+
+part-slot-queued-start : tie.Need-part-slot-queued-start
+part-slot-queued-start c = search needs
+
+part-slot-queued-end : tie.Need-part-slot-queued-end
+part-slot-queued-end c = search needs
+
+slot-queued-requires : tie.Need-slot-queued-requires
+slot-queued-requires c κs = search needs
+
+put-plain-requires : tie.Need-put-plain-requires
+put-plain-requires c κs = search needs
+
+same-length : tie.Need-same-length
+same-length c = search needs
+
+same-length-2 : tie.Need-same-length-2
+same-length-2 c = search needs
+
+returns : tie.Need-returns
+returns c b h p =
+    let a = c .before .before .before .before .before .before .before .before .before .before .before .before .args in
+    let t = queueTypeOf (a .q) in
+    failed (a .ticket) invalidOperation h
+    (queueing-again (asked (a .stream) (a .ticket) (now (a .frame)) b) b t (a .k) p (apart h t)
+    (sym (c .before .before .before .before .if1 .taken) ∙ c .before .before .before .before .before .slot-queued .ensures (queueOf t b) (queue-words h t _ (c .before .before .before .before .before .before .before .before .queue-start .ensures .1))))
+    (c .before .before .put-plain .ensures)
+
+timestamp-requires : tie.Need-timestamp-requires
+timestamp-requires c κs = search needs
+
+add-set-queued : tie.Need-add-set-queued
+add-set-queued c = search needs
+
+mul-set-queued : tie.Need-mul-set-queued
+mul-set-queued c = search needs
+
+sub-set-queued : tie.Need-sub-set-queued
+sub-set-queued c = search needs
+
+part-set-queued-start : tie.Need-part-set-queued-start
+part-set-queued-start c = search needs
+
+part-set-queued-end : tie.Need-part-set-queued-end
+part-set-queued-end c = search needs
+
+set-queued-requires : tie.Need-set-queued-requires
+set-queued-requires c κs = search needs
+
+same-length-3 : tie.Need-same-length-3
+same-length-3 c = search needs
+
+returns-2 : tie.Need-returns-2
+returns-2 c b h p =
+    let a = c .before .before .before .before .before .before .before .before .before .before .before .before .before .args in
+    let t = queueTypeOf (a .q) in
+    silent _ _
+    (queueing-new (asked (a .stream) (a .ticket) (now (a .frame)) b) b t (a .k) p (apart h t)
+    (sym (c .before .before .before .before .before .if1 .left) ∙ c .before .before .before .before .before .before .slot-queued .ensures (queueOf t b) (queue-words h t _ (c .before .before .before .before .before .before .before .before .before .queue-start .ensures .1)))
+    _ (c .before .before .before .before .timestamp .ensures))
+    (queue-back h t _ (c .before .before .before .before .before .before .before .before .before .queue-start .ensures .1) _ _ (c .before .before .set-queued .ensures (queueOf t b)))
+
+pub queue-slot-spec : {M : Type 1} → statement M
+queue-slot-spec =
+    tie.close
+    (tie.spec
+    queue-start-requires
+    add-slot-queued
+    mul-slot-queued
+    sub-slot-queued
+    part-slot-queued-start
+    part-slot-queued-end
+    slot-queued-requires
+    put-plain-requires
+    same-length
+    same-length-2
+    returns
+    timestamp-requires
+    add-set-queued
+    mul-set-queued
+    sub-set-queued
+    part-set-queued-start
+    part-set-queued-end
+    set-queued-requires
+    same-length-3
+    returns-2)

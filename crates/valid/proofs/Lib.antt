@@ -1,0 +1,5 @@
+pub mod Repeated
+pub mod QueueStands
+pub mod Distinct
+pub mod PlaceStands
+pub mod Good

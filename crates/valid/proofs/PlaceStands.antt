@@ -1,0 +1,158 @@
+-- The test whether words are those of the device that they stand for, block by block and part by part.
+use mathlib.Core.Path.{_≡_, refl, sym, ap, ap₂, _∙_}
+use mathlib.Core.Bool.{Bool, true, false, _&&_, and-comm}
+use mathlib.Core.List.{List, [], _∷_, _++_}
+use Prim.Native.Nat.{ℕ, zero, suc, _*_, _<_}
+use native.Mathlib.Omega.{arith}
+use lib.ListN.{length, getD, take, drop, length-drop}
+use lib.Seq.{drop-drop, take-all, getD-take}
+use lib.Dec.{eqb, lit<}
+use borrow.Author.Tests.{eq-eqb, ne-eqb}
+use Rattle.laws.specs.Lists.{allOf, same}
+use Rattle.laws.specs.Tests.{allBelow}
+use Rattle.laws.specs.Parts.{part, zeros, pieces, readPieces}
+use Rattle.laws.proofs.Tests.{both}
+use Rattle.laws.proofs.Lists.{cond-elim, eqb-refl}
+use Rattle.laws.proofs.Same.{same-cut}
+use Rattle.laws.proofs.Pieces.{same-pieces, read-length, all-places}
+use Rattle.model.specs.Device.{QueueType, input, output, Stream, Place, vacant, queueOf}
+use Rattle.model.specs.WellFormed.{goodPlace, distinctPlaces, wellFormed}
+use Rattle.model.specs.Tables.{valid}
+use Rattle.words.specs.Words.{queueWords, decodeQueue}
+use Rattle.words.proofs.Records.{queue-length, decoded-slots}
+use Rattle.table.specs.Blocks.{drainIn, headWords, placeWords, encode, decodePlace, decode}
+use Rattle.table.specs.Layout.{layout}
+use Rattle.table.specs.Search.{placeAt, sized}
+use Rattle.valid.specs.Rules.{headStands, placeStands, foundAgain}
+use Rattle.table.proofs.Records.{head-length, queue-sized, place-length}
+use Rattle.valid.proofs.Distinct.{distinct-test}
+
+-- What is decoded has its sizes
+
+abbrev streamOf : List ℕ → Stream
+streamOf w = record {
+  format = getD w 2 0;
+  draining = drainIn (getD w 3 0) (getD w 4 0);
+  inputs = decodeQueue (part 8 84 w);
+  outputs = decodeQueue (part 92 84 w);
+}
+
+sixteen : (w : List ℕ) (q : QueueType) → length (queueOf q (streamOf w) .slots) ≡ 16
+sixteen w input = decoded-slots (part 8 84 w)
+sixteen w output = decoded-slots (part 92 84 w)
+
+decoded-sized : (w : List ℕ) → sized (decodePlace w) ≡ true
+unfolding decodePlace
+decoded-sized w = cond-elim (λ (p : Place). sized p ≡ true) (eqb (getD w 0 0) 1) (λ _. queue-sized (getD w 1 0) (streamOf w) (sixteen w)) (λ _. refl)
+
+read-all : {A : Type 0} (g : List ℕ → A) (p : A → Bool) (k : ℕ) → ((w : List ℕ) → p (g w) ≡ true) → (n : ℕ) (w : List ℕ) → allOf p (readPieces g k n w) ≡ true
+unfolding readPieces
+read-all g p k h zero w = refl
+read-all g p k h (suc n) w = both (h (take k w)) (read-all g p k h n (drop k w))
+
+pub decode-sized : (w : List ℕ) → allOf sized (decode w) ≡ true
+unfolding decode
+decode-sized w = read-all decodePlace sized 512 decoded-sized 8 w
+
+pub decode-eight : (w : List ℕ) → length (decode w) ≡ 8
+unfolding decode
+decode-eight w = read-length decodePlace 512 8 w
+
+-- The table, by its blocks
+
+compose : {A : Type 0} (f : A → List ℕ) (g : List ℕ → A) (k n : ℕ) (w : List ℕ) → pieces f (readPieces g k n w) ≡ pieces (λ x. f (g x)) (readPieces (λ x. x) k n w)
+unfolding pieces readPieces
+compose f g k zero w = refl
+compose f g k (suc n) w = ap (λ (r : List ℕ). f (g (take k w)) ++ r) (compose f g k n (drop k w))
+
+pub table-test : (t : List ℕ) → length t ≡ 4096 → same t (encode (decode t)) ≡ allBelow 8 (λ k. placeStands (part (512 * k) 512 t))
+unfolding encode decode
+table-test t long =
+    ap (same t) (compose placeWords decodePlace 512 8 t)
+    ∙ same-pieces (λ w. placeWords (decodePlace w)) 512 (λ w. place-length (decodePlace w) (decoded-sized w)) (λ w. w) 8 t long
+
+-- A block, by its parts
+
+pub stands-vacant : (b : List ℕ) → (getD b 0 0 ≡ 1 → ⊥) → placeStands b ≡ same b (zeros 512)
+unfolding decodePlace placeWords
+stands-vacant b h = rw (ne-eqb (getD b 0 0) 1 h)
+
+module _ (b : List ℕ) (long : length b ≡ 512) (live : getD b 0 0 ≡ 1) where
+  abbrev queue : ℕ → List ℕ
+  queue a = queueWords (decodeQueue (part a 84 b))
+
+  abbrev queueStands : ℕ → Bool
+  queueStands a = same (part a 84 b) (queue a)
+
+  queue-84 : (a : ℕ) → length (queue a) ≡ 84
+  queue-84 a = queue-length (decodeQueue (part a 84 b)) (decoded-slots (part a 84 b))
+
+  abbrev head : List ℕ
+  head = headWords (getD b 1 0) (getD b 2 0) (drainIn (getD b 3 0) (getD b 4 0))
+
+  word : (i : ℕ) → i < 8 → getD b i 0 ≡ getD (take 8 b) i 0
+  word i l = sym (getD-take 8 b i 0 l)
+
+  cut8 : same b (head ++ (queue 8 ++ (queue 92 ++ zeros 336))) ≡ headStands (take 8 b) && same (drop 8 b) (queue 8 ++ (queue 92 ++ zeros 336))
+  cut8 =
+      same-cut b head (queue 8 ++ (queue 92 ++ zeros 336)) 8 (omega arith) (head-length (getD b 1 0) (getD b 2 0) (drainIn (getD b 3 0) (getD b 4 0)))
+      ∙ rw (word 1 (lit< tt), word 2 (lit< tt), word 3 (lit< tt), word 4 (lit< tt))
+
+  cut92 : same (drop 8 b) (queue 8 ++ (queue 92 ++ zeros 336)) ≡ queueStands 8 && same (drop 92 b) (queue 92 ++ zeros 336)
+  cut92 = same-cut (drop 8 b) (queue 8) (queue 92 ++ zeros 336) 84 (rw length-drop (omega arith)) (queue-84 8) ∙ rw (drop-drop 84 8 b)
+
+  cut176 : same (drop 92 b) (queue 92 ++ zeros 336) ≡ queueStands 92 && same (part 176 336 b) (zeros 336)
+  cut176 =
+      same-cut (drop 92 b) (queue 92) (zeros 336) 84 (rw length-drop (omega arith)) (queue-84 92)
+      ∙ rw (drop-drop 84 92 b, take-all 336 (drop 176 b) (rw length-drop (omega arith)))
+
+  pub stands-live : placeStands b ≡ headStands (take 8 b) && (queueStands 8 && (queueStands 92 && same (part 176 336 b) (zeros 336)))
+  unfolding decodePlace placeWords
+  stands-live =
+      rw (eq-eqb (getD b 0 0) 1 live)
+      (cut8 ∙ ap (λ (x : Bool). headStands (take 8 b) && x) (cut92 ∙ ap (λ (x : Bool). queueStands 8 && x) cut176))
+
+-- The eight words before the queues, by the drain's first word
+
+eight : (P : List ℕ → Type 0) → ((a n f o t x y z : ℕ) → P (a ∷ n ∷ f ∷ o ∷ t ∷ x ∷ y ∷ z ∷ [])) → (h : List ℕ) → length h ≡ 8 → P h
+eight P g [] e = absurd (omega arith)
+eight P g (a ∷ []) e = absurd (omega arith)
+eight P g (a ∷ n ∷ []) e = absurd (omega arith)
+eight P g (a ∷ n ∷ f ∷ []) e = absurd (omega arith)
+eight P g (a ∷ n ∷ f ∷ o ∷ []) e = absurd (omega arith)
+eight P g (a ∷ n ∷ f ∷ o ∷ t ∷ []) e = absurd (omega arith)
+eight P g (a ∷ n ∷ f ∷ o ∷ t ∷ x ∷ []) e = absurd (omega arith)
+eight P g (a ∷ n ∷ f ∷ o ∷ t ∷ x ∷ y ∷ []) e = absurd (omega arith)
+eight P g (a ∷ n ∷ f ∷ o ∷ t ∷ x ∷ y ∷ z ∷ []) e = g a n f o t x y z
+eight P g (a ∷ n ∷ f ∷ o ∷ t ∷ x ∷ y ∷ z ∷ w ∷ r) e = absurd (omega arith)
+
+module _ (h : List ℕ) (long : length h ≡ 8) where
+  pub head-settled : getD h 0 0 ≡ 1 → getD h 3 0 ≡ 0 → same (part 4 4 h) (zeros (length (part 4 4 h))) ≡ headStands h
+  unfolding same headWords zeros
+  head-settled =
+      eight (λ x. getD x 0 0 ≡ 1 → getD x 3 0 ≡ 0 → same (part 4 4 x) (zeros (length (part 4 4 x))) ≡ headStands x)
+      (λ a n f o t x y z one e. rw (one, e, eqb-refl n, eqb-refl f, eq-eqb o 0 e)) h long
+
+  pub head-owed : getD h 0 0 ≡ 1 → getD h 3 0 ≡ 1 → same (part 5 3 h) (zeros (length (part 5 3 h))) ≡ headStands h
+  unfolding same headWords zeros
+  head-owed =
+      eight (λ x. getD x 0 0 ≡ 1 → getD x 3 0 ≡ 1 → same (part 5 3 x) (zeros (length (part 5 3 x))) ≡ headStands x)
+      (λ a n f o t x y z one e. rw (one, e, eqb-refl n, eqb-refl f, eqb-refl t, eq-eqb o 1 e)) h long
+
+  pub head-other : getD h 0 0 ≡ 1 → (getD h 3 0 ≡ 0 → ⊥) → (getD h 3 0 ≡ 1 → ⊥) → false ≡ headStands h
+  unfolding same headWords zeros
+  head-other =
+      eight (λ x. getD x 0 0 ≡ 1 → (getD x 3 0 ≡ 0 → ⊥) → (getD x 3 0 ≡ 1 → ⊥) → false ≡ headStands x)
+      (λ a n f o t x y z one e d. rw (one, ne-eqb o 1 d, ne-eqb o 0 e, eqb-refl n, eqb-refl f)) h long
+
+-- The whole test of 4,096 words: they are those of a device, and its places keep the rules
+
+pub valid-test : (t : List ℕ) → length t ≡ 4096
+    → valid layout t ≡ same t (encode (decode t)) && (allBelow 8 (λ k. goodPlace (placeAt k (decode t))) && allBelow 8 (λ k. foundAgain k (decode t)))
+unfolding valid wellFormed
+valid-test t long =
+    rw (take-all 4096 t (omega arith), eq-eqb (length (decode t)) 8 (decode-eight t))
+    (and-comm (allOf goodPlace (decode t) && distinctPlaces (decode t)) (same t (encode (decode t)))
+    ∙ ap₂ (λ (a b : Bool). same t (encode (decode t)) && (a && b))
+    (all-places goodPlace vacant (decode t) ∙ ap (λ (n : ℕ). allBelow n (λ k. goodPlace (placeAt k (decode t)))) (decode-eight t))
+    (distinct-test (decode t) ∙ ap (λ (n : ℕ). allBelow n (λ k. foundAgain k (decode t))) (decode-eight t)))

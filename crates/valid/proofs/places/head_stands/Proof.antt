@@ -1,0 +1,65 @@
+-- `valid::checks::head_stands` meets its contract: a law for each case of the drain word.
+use mathlib.Core.Path.{_∙_}
+use borrow.Author.Needs.{needs}
+use Rattle.valid.proofs.PlaceStands.{head-settled, head-owed, head-other}
+use Rattle.valid.proofs.places.head_stands.Statement.{statement}
+use Rattle.valid.proofs.places.head_stands.Tie as tie
+
+shared-slice-read-owed : tie.Need-shared-slice-read-owed
+shared-slice-read-owed c = search needs
+
+sub-all-zero : tie.Need-sub-all-zero
+sub-all-zero c = search needs
+
+part-all-zero-start : tie.Need-part-all-zero-start
+part-all-zero-start c = search needs
+
+part-all-zero-end : tie.Need-part-all-zero-end
+part-all-zero-end c = search needs
+
+all-zero-requires : tie.Need-all-zero-requires
+all-zero-requires c κs = search needs
+
+returns : tie.Need-returns
+returns c =
+    let s = c .before .before .before .before .before in
+    c .all-zero .ensures ∙ head-settled _ (s .pre .0) (s .pre .1) (c .before .before .if1 .taken)
+
+sub-all-zero-2 : tie.Need-sub-all-zero-2
+sub-all-zero-2 c = search needs
+
+part-all-zero-start-2 : tie.Need-part-all-zero-start-2
+part-all-zero-start-2 c = search needs
+
+part-all-zero-end-2 : tie.Need-part-all-zero-end-2
+part-all-zero-end-2 c = search needs
+
+all-zero-requires-2 : tie.Need-all-zero-requires-2
+all-zero-requires-2 c κs = search needs
+
+returns-2 : tie.Need-returns-2
+returns-2 c =
+    let s = c .before .before .before .before .before .before in
+    c .all-zero2 .ensures ∙ head-owed _ (s .pre .0) (s .pre .1) (c .before .before .if2 .taken)
+
+returns-3 : tie.Need-returns-3
+returns-3 c =
+    let s = c .before .before .before .before in
+    head-other _ (s .pre .0) (s .pre .1) (c .before .if1 .left) (c .if2 .left)
+
+pub head-stands-spec : {M : Type 1} → statement M
+head-stands-spec =
+    tie.close
+    (tie.spec
+    shared-slice-read-owed
+    sub-all-zero
+    part-all-zero-start
+    part-all-zero-end
+    all-zero-requires
+    returns
+    sub-all-zero-2
+    part-all-zero-start-2
+    part-all-zero-end-2
+    all-zero-requires-2
+    returns-2
+    returns-3)

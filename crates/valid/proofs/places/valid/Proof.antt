@@ -1,0 +1,57 @@
+-- `valid::checks::valid` meets its contract: once the words stand for a device, the rules are tested on it.
+use mathlib.Core.Path.{_≡_, sym, _∙_}
+use mathlib.Core.Bool.{true}
+use borrow.Author.Needs.{needs}
+use borrow.Author.Tests.{not-true, not-false}
+use Rattle.laws.specs.Lists.{same}
+use Rattle.laws.specs.Tests.{allBelow}
+use Rattle.laws.proofs.Same.{same-true}
+use Rattle.model.specs.WellFormed.{goodPlace}
+use Rattle.table.specs.Blocks.{encode, decode}
+use Rattle.table.specs.Search.{placeAt}
+use Rattle.valid.proofs.PlaceStands.{decode-sized, valid-test}
+use Rattle.valid.proofs.places.valid.Statement.{statement}
+use Rattle.valid.proofs.places.valid.Tie as tie
+
+-- past the first test the words are those of the device that they stand for
+stands : (c : tie.Else1) → c .before .before .before .args .t .now ≡ encode (decode (c .before .before .before .args .t .now))
+stands c = same-true _ _ (sym (c .before .table-stands .ensures) ∙ not-false _ (c .if1 .left))
+
+standing : (c : tie.Else1) → same (c .before .before .before .args .t .now) (encode (decode (c .before .before .before .args .t .now))) ≡ true
+standing c = sym (c .before .table-stands .ensures) ∙ not-false _ (c .if1 .left)
+
+well : (c : tie.After-places-well) → c .places-well .result ≡ allBelow 8 (λ k. goodPlace (placeAt k (decode (c .before .before .before .before .args .t .now))))
+well c =
+    let t = c .before .before .before .before .args .t .now in c .places-well .ensures (decode t) (decode-sized t) (stands (c .before))
+
+table-stands-requires : tie.Need-table-stands-requires
+table-stands-requires c κs = search needs
+
+returns : tie.Need-returns
+returns c = sym (valid-test _ (c .before .before .before .pre) ∙ rw (sym (c .before .table-stands .ensures) ∙ not-true _ (c .if1 .taken)))
+
+places-well-requires : tie.Need-places-well-requires
+places-well-requires c κs = search needs
+
+returns-2 : tie.Need-returns-2
+returns-2 c = sym (valid-test _ (c .before .before .before .before .before .pre) ∙ rw (standing (c .before .before), sym (well (c .before)) ∙ not-true _ (c .if2 .taken)))
+
+places-distinct-requires : tie.Need-places-distinct-requires
+places-distinct-requires c κs = search needs
+
+returns-3 : tie.Need-returns-3
+returns-3 c =
+    let t = c .before .before .before .before .before .before .args .t .now in
+    c .places-distinct .ensures (decode t) (decode-sized t) (stands (c .before .before .before))
+    ∙ sym (valid-test _ (c .before .before .before .before .before .before .pre) ∙ rw (standing (c .before .before .before), sym (well (c .before .before)) ∙ not-false _ (c .before .if2 .left)))
+
+pub valid-spec : {M : Type 1} → statement M
+valid-spec =
+    tie.close
+    (tie.spec
+    table-stands-requires
+    returns
+    places-well-requires
+    returns-2
+    places-distinct-requires
+    returns-3)
