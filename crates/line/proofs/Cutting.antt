@@ -1,0 +1,206 @@
+-- However a log is cut into pieces, the calls on them write what the log writes.
+use mathlib.Core.Path.{_≡_, refl, sym, ap, ap₂, _∙_}
+use mathlib.Core.Bool.{Bool, true, false, cond, not}
+use mathlib.Core.List.{List, [], _∷_, _++_, append-assoc, append-nil}
+use Prim.Native.Nat.{ℕ, zero, suc, _≤_, _<_}
+use native.Mathlib.Omega.{arith}
+use lib.Dec.{eqb, ltb}
+use lib.ListN.{length, getD, take, drop, length-drop, take-append-drop}
+use lib.Seq.{take-all, length-take-le, take-append-le, take-suc, take-take}
+use borrow.Author.Tests.{ltb-true, ltb-false, eqb-true, not-true}
+use Rattle.laws.specs.Lists.{allOf, isEmpty}
+use Rattle.laws.specs.Parts.{pieces}
+use Rattle.laws.proofs.Tests.{both, and-left, and-right}
+use Rattle.laws.proofs.Lists.{decide, all-append}
+use Rattle.model.specs.Tables.{Layout}
+use Rattle.line.specs.Hex.{isHex}
+use Rattle.line.specs.Line.{Line, lineOf}
+use Rattle.line.specs.Split.{before, linesIn, lineRoom, kept, lineEnd, split}
+use Rattle.line.specs.Log.{onLine, lineStep, linesOutput, logOutput}
+use Rattle.line.specs.Reading.{Reader, Call, stepDone, onPiece, atEnd, start, callsOutput, usedOf, allUsed, offersIn, offers, allOffers}
+use Rattle.line.specs.Promises.{OverLong, KeptDecides, UsesSome, AnyCalls, AnyCutting}
+use Rattle.line.proofs.Stores.{pieces-append}
+use Rattle.line.proofs.Frames.{over-long-hex, line-bad}
+use Rattle.line.proofs.Lines.{end-within}
+
+-- A line that is over-long
+
+pub over-long : OverLong
+over-long line h = decide (isHex line) (λ e. over-long-hex line e h) (λ e. line-bad line e)
+
+-- what is kept of a line that is not over-long is the line
+keep-all : (line : List ℕ) → length line ≤ lineRoom → kept line ≡ line
+unfolding kept
+keep-all line h = take-all lineRoom line h
+
+keep-most : (line : List ℕ) → lineRoom ≤ length line → length (kept line) ≡ lineRoom
+unfolding kept
+keep-most line h = length-take-le lineRoom line h
+
+pub kept-decides : KeptDecides
+kept-decides line =
+    decide (ltb lineRoom (length line))
+    (λ e. let long = ltb-true lineRoom (length line) e in
+    over-long (kept line) (omega (arith, keep-most line (omega arith))) ∙ sym (over-long line (omega arith)))
+    (λ e. ap lineOf (keep-all line (ltb-false lineRoom (length line) e)))
+
+keep-front : (l s : List ℕ) → lineRoom ≤ length l → kept (l ++ s) ≡ kept l
+unfolding kept
+keep-front l s h = take-append-le lineRoom l s h
+
+keep-twice : (l : List ℕ) → kept (kept l) ≡ kept l
+unfolding kept
+keep-twice l = take-take lineRoom lineRoom l (omega arith)
+
+-- to keep of what is kept is to keep of the whole
+keep-more : (line text : List ℕ) → kept (kept line ++ text) ≡ kept (line ++ text)
+keep-more line text =
+    decide (ltb lineRoom (length line))
+    (λ e. let long = ltb-true lineRoom (length line) e in keep-front (kept line) text (omega (arith, keep-most line (omega arith))) ∙ keep-twice line ∙ sym (keep-front line text (omega arith)))
+    (λ e. ap (λ (l : List ℕ). kept (l ++ text)) (keep-all line (ltb-false lineRoom (length line) e)))
+
+-- Lines without byte 10
+
+abbrev noTen : List ℕ → Bool
+noTen l = allOf (λ b. not (eqb b 10)) l
+
+end-clean : (p : List ℕ) → noTen (take (lineEnd p) p) ≡ true
+unfolding lineEnd
+end-clean [] = refl
+end-clean (b ∷ p) = decide (eqb b 10) (λ e. rw e) (λ e. rw e (both (ap not e) (end-clean p)))
+
+-- where there is a byte 10, it is the one that the line ends at
+end-ten : (p : List ℕ) → lineEnd p < length p → getD p (lineEnd p) 0 ≡ 10
+unfolding lineEnd
+end-ten [] h = absurd (omega arith)
+end-ten (b ∷ p) h = decide (eqb b 10) (λ e. rw e (eqb-true b 10 e)) (λ e. rw e (end-ten p (omega (arith, (rw e at h)))))
+
+lines-ended : (l s : List ℕ) → noTen l ≡ true → linesIn (l ++ 10 ∷ s) ≡ l ∷ linesIn s
+unfolding linesIn
+lines-ended [] s h = refl
+lines-ended (b ∷ l) s h =
+    rw (not-true (eqb b 10) (and-left (not (eqb b 10)) (noTen l) h))
+    (ap (before b) (lines-ended l s (and-right (not (eqb b 10)) (noTen l) h)))
+
+-- the last line counts unless it is empty
+lines-last : (l : List ℕ) → noTen l ≡ true → linesIn l ≡ cond (isEmpty l) [] (l ∷ [])
+unfolding linesIn
+lines-last [] h = refl
+lines-last (b ∷ l) h =
+    rw (not-true (eqb b 10) (and-left (not (eqb b 10)) (noTen l) h))
+    (ap (before b) (lines-last l (and-right (not (eqb b 10)) (noTen l) h)) ∙ one l)
+  where
+    one : (l : List ℕ) → before b (cond (isEmpty l) [] (l ∷ [])) ≡ (b ∷ l) ∷ []
+    one [] = refl
+    one (x ∷ l) = refl
+
+-- A call on a piece
+
+module _ (L : Layout) (t line piece : List ℕ) where
+  abbrev reader : Reader
+  reader = record { table = t; line = kept line }
+
+  -- the piece has a byte 10: the line ends there and is stepped
+  module _ (e : ltb (lineEnd piece) (length piece) ≡ true) where
+    call-ended : onPiece L reader piece ≡ stepDone (suc (lineEnd piece)) (lineStep L t (line ++ take (lineEnd piece) piece))
+    unfolding onPiece split lineStep
+    call-ended = rw e (ap (λ (l : List ℕ). stepDone (suc (lineEnd piece)) (onLine L t (lineOf l))) (keep-more line (take (lineEnd piece) piece))
+        ∙ ap (λ (l : Line). stepDone (suc (lineEnd piece)) (onLine L t l)) (kept-decides (line ++ take (lineEnd piece) piece)))
+
+    used-ended : usedOf piece ≡ take (lineEnd piece) piece ++ 10 ∷ []
+    unfolding usedOf split
+    used-ended =
+        let inside = ltb-true (lineEnd piece) (length piece) e in
+        rw e (take-suc piece (lineEnd piece) 0 inside ∙ ap (λ (b : ℕ). take (lineEnd piece) piece ++ b ∷ []) (end-ten piece inside))
+
+  -- it has none: all of it is kept
+  module _ (e : ltb (lineEnd piece) (length piece) ≡ false) where
+    all-of : take (lineEnd piece) piece ≡ piece
+    all-of = take-all (lineEnd piece) piece (ltb-false (lineEnd piece) (length piece) e)
+
+    call-open : onPiece L reader piece ≡ record { used = lineEnd piece; output = []; reader = record { table = t; line = kept (line ++ piece) } }
+    unfolding onPiece split
+    call-open =
+        rw e (ap (λ (l : List ℕ). record { used = lineEnd piece; output = []; reader = record { table = t; line = l } }) (keep-more line (take (lineEnd piece) piece) ∙ ap (λ (s : List ℕ). kept (line ++ s)) all-of))
+
+    used-open : usedOf piece ≡ piece
+    unfolding usedOf split
+    used-open = rw e all-of
+
+-- All calls
+
+kept-none : kept [] ≡ []
+unfolding kept
+kept-none = refl
+
+module _ (L : Layout) (t : List ℕ) where
+  end-empty : atEnd L (record { table = t; line = kept [] }) ≡ linesOutput L t []
+  unfolding atEnd kept linesOutput
+  end-empty = refl
+
+  end-line : (b : ℕ) (l : List ℕ) → atEnd L (record { table = t; line = kept (b ∷ l) }) ≡ linesOutput L t ((b ∷ l) ∷ [])
+  unfolding atEnd kept linesOutput lineStep
+  end-line b l = ap (λ (x : Line). onLine L t x .output) (kept-decides (b ∷ l)) ∙ sym (append-nil (onLine L t (lineOf (b ∷ l)) .output))
+
+module _ (L : Layout) where
+  last : (t line : List ℕ) → noTen line ≡ true → atEnd L (record { table = t; line = kept line }) ≡ linesOutput L t (linesIn line)
+  last t line h = of line h ∙ ap (linesOutput L t) (sym (lines-last line h))
+    where
+      of : (line : List ℕ) → noTen line ≡ true → atEnd L (record { table = t; line = kept line }) ≡ linesOutput L t (cond (isEmpty line) [] (line ∷ []))
+      of [] h = end-empty L t
+      of (b ∷ l) h = end-line L t b l
+
+  calls-are : (t line : List ℕ) (ps : List (List ℕ)) → noTen line ≡ true → callsOutput L (record { table = t; line = kept line }) ps ≡ linesOutput L t (linesIn (line ++ allUsed ps))
+  unfolding callsOutput pieces linesOutput
+  calls-are t line [] h = last t line h ∙ ap (λ (l : List ℕ). linesOutput L t (linesIn l)) (sym (append-nil line))
+  calls-are t line (p ∷ ps) h =
+      decide (ltb (lineEnd p) (length p))
+      (λ e. let here = line ++ take (lineEnd p) p in
+      let s = lineStep L t here in
+      let more = allUsed ps in
+      let clean : noTen here ≡ true = all-append (λ b. not (eqb b 10)) line (take (lineEnd p) p) ∙ both h (end-clean p) in
+      let lines : linesIn (line ++ (usedOf p ++ more)) ≡ here ∷ linesIn more =
+      ap (λ (u : List ℕ). linesIn (line ++ (u ++ more))) (used-ended L t line p e)
+      ∙ ap linesIn (simp append-assoc)
+      ∙ lines-ended here more clean in
+      ap (λ (c : Call). c .output ++ callsOutput L (c .reader) ps) (call-ended L t line p e)
+      ∙ ap (λ (o : List ℕ). s .output ++ o) (ap (λ (l : List ℕ). callsOutput L (record { table = s .table; line = l }) ps) (sym kept-none) ∙ calls-are (s .table) [] ps refl)
+      ∙ ap (linesOutput L t) (sym lines))
+      (λ e.
+      let clean : noTen (line ++ p) ≡ true =
+      all-append (λ b. not (eqb b 10)) line p ∙ both h (ap noTen (sym (all-of L t line p e)) ∙ end-clean p) in
+      ap (λ (c : Call). c .output ++ callsOutput L (c .reader) ps) (call-open L t line p e)
+      ∙ calls-are t (line ++ p) ps clean
+      ∙ ap (λ (l : List ℕ). linesOutput L t (linesIn l)) (append-assoc line p (allUsed ps) ∙ ap (λ (u : List ℕ). line ++ (u ++ allUsed ps)) (sym (used-open L t line p e))))
+
+pub any-calls : (L : Layout) → AnyCalls L
+unfolding logOutput kept
+any-calls L ps = calls-are L (start L .table) [] ps refl
+
+-- Pieces that are offered until they are used up
+
+pub uses-some : UsesSome
+unfolding split
+uses-some line piece =
+    decide (ltb (lineEnd piece) (length piece))
+    (λ e. let inside = ltb-true (lineEnd piece) (length piece) e in rw e (omega arith, λ h. omega arith))
+    (λ e. let whole = ltb-false (lineEnd piece) (length piece) e in rw e (end-within piece, λ h. omega arith))
+
+offers-used : (k : ℕ) (s : List ℕ) → length s ≤ k → allUsed (offersIn k s) ≡ s
+unfolding offersIn pieces usedOf
+offers-used zero [] h = refl
+offers-used zero (b ∷ s) h = absurd (omega arith)
+offers-used (suc k) [] h = refl
+offers-used (suc k) (b ∷ s) h =
+    let n = split [] (b ∷ s) .used in
+    let some-used = uses-some [] (b ∷ s) .1 (omega arith) in
+    ap (λ (r : List ℕ). take n (b ∷ s) ++ r) (offers-used k (drop n (b ∷ s)) (omega (arith, length-drop n (b ∷ s), some-used)))
+    ∙ take-append-drop n (b ∷ s)
+
+all-used : (ps : List (List ℕ)) → allUsed (allOffers ps) ≡ pieces (λ (p : List ℕ). p) ps
+unfolding pieces
+all-used [] = refl
+all-used (p ∷ ps) = pieces-append usedOf (offers p) (allOffers ps) ∙ ap₂ (λ (a b : List ℕ). a ++ b) (offers-used (length p) p (omega arith)) (all-used ps)
+
+pub any-cutting : (L : Layout) → AnyCutting L
+any-cutting L ps = any-calls L (allOffers ps) ∙ ap (logOutput L) (all-used ps)

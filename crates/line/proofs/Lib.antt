@@ -1,0 +1,10 @@
+pub mod Edges
+pub mod Examples
+pub mod Stores
+pub mod Digits
+pub mod Frames
+pub mod EveryStep
+pub mod Lines
+pub mod Written
+pub mod Cutting
+pub mod Shown

@@ -1,0 +1,45 @@
+-- `line::writing::put_outcome` meets its contract: the test of the refusal is that of `shown`.
+use native.Mathlib.Omega.{arith}
+use borrow.Author.Needs.{needs}
+use borrow.Author.Tests.{eq-eqb, ne-eqb}
+use Rattle.line.proofs.writing.put_outcome.Statement.{statement}
+use Rattle.line.proofs.writing.put_outcome.Tie as tie
+
+put-answers-requires : tie.Need-put-answers-requires
+put-answers-requires c κs = search needs
+
+same-length : tie.Need-same-length
+same-length c = search needs
+
+returns : tie.Need-returns
+returns c = (
+  omega (arith, c .before .before .put-answers .ensures .0),
+  rw (eq-eqb (c .before .before .before .before .before .before .before .args .refusal) 0 (c .before .before .before .before .if1 .taken)) (c .before .before .put-answers .ensures .1),
+)
+
+cast-put-refusal : tie.Need-cast-put-refusal
+cast-put-refusal c = search needs
+
+put-refusal-requires : tie.Need-put-refusal-requires
+put-refusal-requires c κs = search needs
+
+same-length-2 : tie.Need-same-length-2
+same-length-2 c = search needs
+
+returns-2 : tie.Need-returns-2
+returns-2 c = (
+  omega (arith, c .before .before .put-refusal .ensures .0),
+  rw (ne-eqb (c .before .before .before .before .before .before .before .args .refusal) 0 (c .before .before .before .before .if1 .left)) (c .before .before .put-refusal .ensures .1),
+)
+
+pub put-outcome-spec : {M : Type 1} → statement M
+put-outcome-spec =
+    tie.close
+    (tie.spec
+    put-answers-requires
+    same-length
+    returns
+    cast-put-refusal
+    put-refusal-requires
+    same-length-2
+    returns-2)

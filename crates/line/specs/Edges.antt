@@ -1,0 +1,60 @@
+-- Lines on both sides of each edge, and what each of them stands for.
+use mathlib.Core.Path.{_≡_}
+use mathlib.Core.List.{List, [], _∷_, _++_, map}
+use Prim.Native.Nat.{ℕ, _+_, _*_, _-_}
+use lib.ListN.{replicate}
+use Rattle.model.specs.Steps.{command, finish, drained}
+use Rattle.line.specs.Line.{Line, step, noFrame, lineOf}
+
+infix 80 _means_
+-- a line, and what it stands for
+pub record Case : Type 0 where
+  pub line : List ℕ
+  pub meaning : Line
+
+abbrev pub _means_ : List ℕ → Line → Case
+line means meaning = record { line = line; meaning = meaning }
+
+-- the digits of n bytes: the kind, which is below 10, and zeros
+abbrev pub ofKind : ℕ → ℕ → List ℕ
+ofKind k n = 48 ∷ (48 + k) ∷ replicate (2 * n - 2) 48
+
+-- the digits of a drained report's line whose last two are these
+abbrev pub ending : ℕ → ℕ → List ℕ
+ending h l = 48 ∷ 50 ∷ (replicate 6 48 ++ h ∷ l ∷ [])
+
+abbrev pub cases : List Case
+cases =
+    -- the lengths of each kind, and a kind that there is not
+    ofKind 0 4 means noFrame
+    ∷ ofKind 0 5 means step (command 0 [])
+    ∷ ofKind 0 4189 means step (command 0 (replicate 4184 0))
+    ∷ ofKind 0 4190 means noFrame
+    ∷ ofKind 1 24 means noFrame
+    ∷ ofKind 1 25 means step (finish 0 0 0 0 0)
+    ∷ ofKind 1 26 means noFrame
+    ∷ ofKind 2 4 means noFrame
+    ∷ ofKind 2 5 means step (drained 0)
+    ∷ ofKind 2 6 means noFrame
+    ∷ ofKind 3 5 means noFrame
+    -- no digit, and one too many
+    ∷ [] means noFrame
+    ∷ (48 ∷ ofKind 2 5) means noFrame
+    -- the first and the last of the digits of each case, and the bytes before and behind them
+    ∷ ending 48 57 means step (drained 0x09000000)
+    ∷ ending 65 70 means step (drained 0xaf000000)
+    ∷ ending 97 102 means step (drained 0xaf000000)
+    ∷ ending 48 47 means noFrame
+    ∷ ending 48 58 means noFrame
+    ∷ ending 64 48 means noFrame
+    ∷ ending 71 48 means noFrame
+    ∷ ending 48 96 means noFrame
+    ∷ ending 48 103 means noFrame
+    -- blanks, and carriage returns
+    ∷ (32 ∷ 32 ∷ ofKind 2 5) means noFrame
+    ∷ (ofKind 2 5 ++ 13 ∷ []) means noFrame
+    ∷ ending 48 13 means noFrame
+    ∷ []
+
+abbrev pub Edges : Type 0
+Edges = map (λ (c : Case). lineOf (c .line)) cases ≡ map (λ (c : Case). c .meaning) cases

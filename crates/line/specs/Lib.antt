@@ -1,0 +1,8 @@
+pub mod Hex
+pub mod Line
+pub mod Split
+pub mod Log
+pub mod Reading
+pub mod Promises
+pub mod Examples
+pub mod Edges

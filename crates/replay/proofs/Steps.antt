@@ -1,0 +1,119 @@
+-- What a line's step gives back, in the form in which the code has it.
+use mathlib.Core.Path.{_≡_, refl, sym, ap, _∙_, subst}
+use mathlib.Core.Bool.{Bool, true, false, cond}
+use mathlib.Core.List.{List, [], _∷_}
+use Prim.Native.Nat.{ℕ, _≤_, _<_}
+use native.Mathlib.Omega.{arith}
+use lib.Dec.{eqb, leb}
+use lib.ListN.{length, take, length-take}
+use lib.Seq.{length-take-le}
+use borrow.Author.Tests.{leb-true, eqb-true}
+use Rattle.laws.specs.Lists.{isEmpty}
+use Rattle.laws.specs.Stores.{Wrote}
+use Rattle.laws.proofs.Stores.{wrote-none}
+use Rattle.laws.proofs.Lists.{decide}
+use Rattle.model.specs.Numbers.{answerRoom}
+use Rattle.model.specs.Steps.{Act, command, finish, drained}
+use Rattle.model.specs.Tables.{Layout, Effect, effect}
+use Rattle.model.specs.Promises.{listed}
+use Rattle.model.proofs.Refusals.{only-listed}
+use Rattle.model.proofs.Unchanged.{writes-at-most}
+use Rattle.table.specs.Layout.{layout}
+use Rattle.line.specs.Line.{Line, step, refused, lineOf}
+use Rattle.line.specs.Split.{Split, split}
+use Rattle.line.specs.Reading.{Reader, Call, onSplit, onPiece, atEnd}
+use Rattle.line.specs.Log.{Logged, refusalLine, Whole, shown, lineStep}
+use Rattle.line.specs.Promises.{goodLine}
+use Rattle.replay.specs.Fed.{Did}
+use Rattle.replay.specs.declared.Fed.{Fed}
+use Rattle.line.proofs.Cutting.{uses-some}
+use Rattle.line.proofs.Shown.{steps-are-good, writes-answers, line-step, line-refused}
+
+-- every refusal that a step can have fits in a byte
+listed-small : (a : Act) (k : ℕ) → listed a k ≡ true → k < 256
+listed-small (command t f) k e = omega (arith, leb-true k 4 e)
+listed-small (finish n q r f t) k e =
+    decide (leb k 3) (λ p. omega (arith, leb-true k 3 p)) (λ p.
+    decide (eqb k 5) (λ q. omega (arith, eqb-true k 5 q)) (λ q. omega (arith, eqb-true k 6 (simp (p, q) at e))))
+listed-small (drained n) k e = decide (leb k 3) (λ p. omega (arith, leb-true k 3 p)) (λ p. omega (arith, eqb-true k 5 (simp p at e)))
+
+-- a line that is a step: what was carried out of it in the answer room
+module _ (L : Layout) (t line room : List ℕ) (a : Act) (is : lineOf line ≡ step a) (long : answerRoom ≤ length room)
+    (refusal written : ℕ) (t′ room′ : List ℕ) (e : record { refusal = refusal; written = written; table = t′; room = room′ } ≡ effect L t a room) where
+  pub small : refusal < 256
+  small = subst (λ (x : Effect). x .refusal < 256) (sym e) (listed-small a (effect L t a room .refusal) (only-listed L t a room))
+
+  pub few : written ≤ 1056
+  few = subst (λ (x : Effect). x .written ≤ 1056) (sym e) (writes-at-most L t a room)
+
+  pub short : length (take written room′) ≤ 1056
+  short = rw (length-take written room′) (omega (arith, few))
+
+  pub whole : Whole (take written room′)
+  whole =
+      subst (λ (x : Effect). Whole (take (x .written) (x .room))) (sym e)
+      (writes-answers L t a room (subst (λ (l : Line). goodLine l ≡ true) is (steps-are-good line)))
+
+  pub logged : {out out′ : List ℕ} {r : ℕ} → Wrote out out′ 0 r (shown refusal (take written room′)) → Wrote out out′ 0 r (lineStep L t line .output) × (t′ ≡ lineStep L t line .table)
+  logged {out} {out′} {r} w =
+      subst (λ (x : Logged). Wrote out out′ 0 r (x .output) × (t′ ≡ x .table))
+      (ap (λ (x : Effect). record { output = shown (x .refusal) (take (x .written) (x .room)); table = x .table }) e ∙ sym (line-step L t line room a is long))
+      (w, refl)
+
+-- a line that is refused
+pub logged-refused : (L : Layout) (t line : List ℕ) (k : ℕ) {out out′ : List ℕ} {r : ℕ} → lineOf line ≡ refused k → Wrote out out′ 0 r (refusalLine k)
+    → Wrote out out′ 0 r (lineStep L t line .output) × (t ≡ lineStep L t line .table)
+logged-refused L t line k {out} {out′} {r} e w = subst (λ (x : Logged). Wrote out out′ 0 r (x .output) × (t ≡ x .table)) (sym (line-refused L t line k e)) (w, refl)
+
+-- A call on a piece
+
+module _ (L : Layout) (t line piece held out : List ℕ) (ended : Bool) (used have : ℕ) (e : record { ended = ended; used = used; line = take have held } ≡ split line piece) where
+  -- the line has not ended
+  pub call-open : ended ≡ false → Did (onPiece L (record { table = t; line = line }) piece) (record { used = used; have = have; written = 0 }) t held out out
+  unfolding onPiece
+  call-open f =
+      subst (λ (s : Split). Did (onSplit L t s) (record { used = used; have = have; written = 0 }) t held out out)
+      (ap (λ (b : Bool). record { ended = b; used = used; line = take have held }) (sym f) ∙ e)
+      (record { used = refl; wrote = wrote-none out 0; table = refl; line = refl })
+
+  -- it has, and was stepped
+  pub call-ended : {out′ t′ : List ℕ} {n : ℕ} → ended ≡ true → Wrote out out′ 0 n (lineStep L t (take have held) .output) × (t′ ≡ lineStep L t (take have held) .table)
+      → Did (onPiece L (record { table = t; line = line }) piece) (record { used = used; have = 0; written = n }) t′ held out out′
+  unfolding onPiece
+  call-ended {out′} {t′} {n} f w =
+      subst (λ (s : Split). Did (onSplit L t s) (record { used = used; have = 0; written = n }) t′ held out out′)
+      (ap (λ (b : Bool). record { ended = b; used = used; line = take have held }) (sym f) ∙ e)
+      (record { used = refl; wrote = w .0; table = w .1; line = refl })
+
+-- The end of the log
+
+module _ (L : Layout) (t held : List ℕ) (have : ℕ) where
+  pub end-empty : {out : List ℕ} → have ≡ 0 → Wrote out out 0 0 (atEnd L (record { table = t; line = take have held }))
+  unfolding atEnd
+  end-empty {out} e = rw e (wrote-none out 0)
+
+  pub end-line : {out out′ : List ℕ} {n : ℕ} → (have ≡ 0 → ⊥) → have ≤ length held → Wrote out out′ 0 n (lineStep L t (take have held) .output) → Wrote out out′ 0 n (atEnd L (record { table = t; line = take have held }))
+  unfolding atEnd
+  end-line {out} {out′} {n} ne h w = rw (not-empty (take have held) (λ z. ne (sym (length-take-le have held h) ∙ z))) w
+    where
+      not-empty : (l : List ℕ) → (length l ≡ 0 → ⊥) → isEmpty l ≡ false
+      not-empty [] f = absurd (f refl)
+      not-empty (x ∷ l) f = refl
+
+-- the same call, and the same output, by equal ones
+pub as-call : {c d : Call} {r : Fed} {t held out out′ : List ℕ} → c ≡ d → Did c r t held out out′ → Did d r t held out out′
+as-call {r = r} {t} {held} {out} {out′} e x = subst (λ (y : Call). Did y r t held out out′) e x
+
+pub as-output : {d e : List ℕ} {r : ℕ} {xs ys : List ℕ} → xs ≡ ys → Wrote d e 0 r xs → Wrote d e 0 r ys
+as-output {d} {e} {r} p x = subst (λ (s : List ℕ). Wrote d e 0 r s) p x
+
+-- a call uses no more than its piece has, and a byte or more where it has any
+cond-used : (b : Bool) (x y : Call) (n : ℕ) → x .used ≡ n → y .used ≡ n → cond b x y .used ≡ n
+cond-used true x y n e f = e
+cond-used false x y n e f = f
+
+pub used-some : {c : Fed} {t held out out′ : List ℕ} (r : Reader) (piece : List ℕ) → Did (onPiece layout r piece) c t held out out′ → (c .used ≤ length piece) × (0 < length piece → 0 < c .used)
+unfolding onPiece
+used-some r piece did =
+    let s = split (r .line) piece in
+    subst (λ (n : ℕ). (n ≤ length piece) × (0 < length piece → 0 < n)) (sym (did .used ∙ cond-used (s .ended) _ _ (s .used) refl refl)) (uses-some (r .line) piece)

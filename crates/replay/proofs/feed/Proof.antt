@@ -1,0 +1,43 @@
+-- `replay::feed` meets its contract: what is kept is the same within its room.
+use mathlib.Core.Path.{ap}
+use mathlib.Core.List.{List}
+use Prim.Native.Nat.{ℕ}
+use Rattle.laws.proofs.Stores.{wrote-length}
+use Rattle.table.specs.Layout.{layout}
+use Rattle.line.specs.Reading.{onPiece}
+use Rattle.replay.proofs.Steps.{as-call, used-some}
+use borrow.Author.Needs.{needs}
+use Rattle.replay.proofs.feed.Statement.{statement}
+use Rattle.replay.proofs.feed.Tie as tie
+
+kept-requires : tie.Need-kept-requires
+kept-requires c κs = search needs
+
+slice-aggregate-feed : tie.Need-slice-aggregate-feed
+slice-aggregate-feed c = search needs
+
+slice-aggregate-feed-2 : tie.Need-slice-aggregate-feed-2
+slice-aggregate-feed-2 c = search needs
+
+feed-requires : tie.Need-feed-requires
+feed-requires c κs = search needs
+
+same-length : tie.Need-same-length
+same-length c = search needs
+
+returns : tie.Need-returns
+returns c =
+    let a = c .before .before .before .before .before .before .before .before .before .before .before .before .before .args in
+    let did = as-call (ap (λ (l : List ℕ). onPiece layout (record { table = a .table .now; line = l }) (a .piece .now)) (c .before .before .before .before .before .before .before .before .kept .ensures .1 (a .held .now) (search needs))) (c .before .before .before .before .feed .ensures .1) in
+    (rw (wrote-length (did .wrote)) (c .before .before .before .before .feed .ensures .0 .1), (used-some _ (a .piece .now) did, did))
+
+pub feed-spec : {M : Type 1} → statement M
+feed-spec =
+    tie.close
+    (tie.spec
+    kept-requires
+    slice-aggregate-feed
+    slice-aggregate-feed-2
+    feed-requires
+    same-length
+    returns)

@@ -1,0 +1,89 @@
+-- `replay::lines::carry_out` meets its contract: each arm is an entry's equation.
+use mathlib.Core.Path.{sym, ap, _∙_, subst}
+use Prim.Native.Nat.{_≤_}
+use denote.Ref.{now}
+use lib.ListN.{length}
+use lib.Seq.{length-take-le}
+use borrow.Author.Needs.{needs}
+use Rattle.model.specs.Tables.{effect}
+use Rattle.table.specs.Layout.{layout}
+use Rattle.line.specs.declared.Frame.{Frame}
+use Rattle.line.specs.Line.{framed, countIn}
+use Rattle.replay.proofs.lines.carry_out.Statement.{statement}
+use Rattle.replay.proofs.lines.carry_out.Tie as tie
+
+enum-known-found : tie.Need-enum-known-found
+enum-known-found c = search needs
+
+slice-aggregate-virtio-video-command : tie.Need-slice-aggregate-virtio-video-command
+slice-aggregate-virtio-video-command c = let s = c .before .before .before .before .before .before .before .before in
+    sym (length-take-le _ _ (subst (λ (f : Frame). countIn f ≤ length (now (s .args .frame))) (c .before .before .before .found .given .1) (s .pre)))
+
+virtio-video-command-requires : tie.Need-virtio-video-command-requires
+virtio-video-command-requires c κs = search needs
+
+enum-known-found-2 : tie.Need-enum-known-found-2
+enum-known-found-2 c = search needs
+
+virtio-video-finish-requires : tie.Need-virtio-video-finish-requires
+virtio-video-finish-requires c κs = search needs
+
+enum-known-found-3 : tie.Need-enum-known-found-3
+enum-known-found-3 c = search needs
+
+virtio-video-drained-requires : tie.Need-virtio-video-drained-requires
+virtio-video-drained-requires c κs = search needs
+
+same-length : tie.Need-same-length
+same-length c = search needs
+
+same-length-2 : tie.Need-same-length-2
+same-length-2 c = search needs
+
+returns : tie.Need-returns
+returns c = let s = c .before .before .before .before .before .before .before .before .before .before .before .before .before .before in
+    c .before .before .before .before .virtio-video-command .ensures
+    ∙ ap (λ (f : Frame). effect layout (now (s .args .table)) (framed f (now (s .args .frame))) (now (s .args .answers))) (sym (c .before .before .before .before .before .before .before .before .before .found .given .1))
+
+same-length-3 : tie.Need-same-length-3
+same-length-3 c = search needs
+
+same-length-4 : tie.Need-same-length-4
+same-length-4 c = search needs
+
+returns-2 : tie.Need-returns-2
+returns-2 c = let s = c .before .before .before .before .before .before .before .before .before .before .before .before .before in
+    c .before .before .before .before .virtio-video-finish .ensures
+    ∙ ap (λ (f : Frame). effect layout (now (s .args .table)) (framed f (now (s .args .frame))) (now (s .args .answers))) (sym (c .before .before .before .before .before .before .before .before .found2 .given .1))
+
+same-length-5 : tie.Need-same-length-5
+same-length-5 c = search needs
+
+same-length-6 : tie.Need-same-length-6
+same-length-6 c = search needs
+
+returns-3 : tie.Need-returns-3
+returns-3 c = let s = c .before .before .before .before .before .before .before .before .before .before .before .before .before in
+    c .before .before .before .before .virtio-video-drained .ensures
+    ∙ ap (λ (f : Frame). effect layout (now (s .args .table)) (framed f (now (s .args .frame))) (now (s .args .answers))) (sym (c .before .before .before .before .before .before .before .before .found3 .given .1))
+
+pub carry-out-spec : {M : Type 1} → statement M
+carry-out-spec =
+    tie.close
+    (tie.spec
+    enum-known-found
+    slice-aggregate-virtio-video-command
+    virtio-video-command-requires
+    enum-known-found-2
+    virtio-video-finish-requires
+    enum-known-found-3
+    virtio-video-drained-requires
+    same-length
+    same-length-2
+    returns
+    same-length-3
+    same-length-4
+    returns-2
+    same-length-5
+    same-length-6
+    returns-3)

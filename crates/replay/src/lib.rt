@@ -1,0 +1,68 @@
+// The log as it is run: lines out of what is read in pieces, and a step for each. A program over it only reads, calls and writes.
+ghost use mathlib.Core.Path.{_≡_};
+ghost use mathlib.Core.List.{List};
+ghost use Prim.Native.Nat.{ℕ, _<_, _≤_};
+ghost use lib.ListN.{length, take};
+ghost use Rattle.laws.specs.Stores.{Wrote};
+ghost use Rattle.table.specs.Layout.{layout};
+ghost use Rattle.line.specs.Split.{lineRoom};
+ghost use Rattle.line.specs.Reading.{onPiece, atEnd};
+ghost use Rattle.replay.specs.Fed.{Did};
+
+mod lines;
+
+// The bytes that are kept of a line that has not ended.
+const LINE_ROOM: usize = 8379;
+
+// What a call on a piece did: the bytes used of it, the bytes kept of the line that has not ended, the bytes written.
+pub struct Fed {
+    pub used: usize,
+    pub have: usize,
+    pub written: usize,
+}
+
+// Takes a piece up to its first byte 10 behind the `have` bytes that `held` keeps of the line, and steps the line where it ends.
+pub fn feed(
+    table: &mut [u32],
+    held: &mut [u8; 8379],
+    have: usize,
+    piece: &[u8],
+    out: &mut [u8; 2112],
+) -> Fed
+    ensures fits { λ r. ⌜ r .written ≤ length (now (out .exit)) ⌝ }
+    ensures uses { λ r. ⌜ (r .used ≤ length (now (piece .entry))) × (0 < length (now (piece .entry)) → 0 < r .used) ⌝ }
+    ensures means { λ r. ⌜ Did (onPiece layout (record { table = now (table .entry); line = take have (now (held .entry)) }) (now (piece .entry))) r (now (table .exit)) (now (held .exit)) (now (out .entry)) (now (out .exit)) ⌝ }
+{
+    let mut frame = [0u8; 4184];
+    let mut answers = [0u8; 1056];
+    lines::feed(
+        table,
+        held,
+        kept(have),
+        piece,
+        &mut frame,
+        &mut answers,
+        out,
+    )
+}
+
+// Steps the last line where the log ends without byte 10, unless it is empty; returns the bytes written.
+pub fn finish(table: &mut [u32], held: &[u8; 8379], have: usize, out: &mut [u8; 2112]) -> usize
+    ensures fits { λ r. ⌜ r ≤ length (now (out .exit)) ⌝ }
+    ensures means { λ r. ⌜ Wrote (now (out .entry)) (now (out .exit)) 0 r (atEnd layout (record { table = now (table .entry); line = take have (now (held .entry)) })) ⌝ }
+{
+    let mut frame = [0u8; 4184];
+    let mut answers = [0u8; 1056];
+    lines::finish(table, held, kept(have), &mut frame, &mut answers, out)
+}
+
+// No more is kept than there is room for.
+fn kept(have: usize) -> usize
+    ensures fits { λ r. ⌜ r ≤ lineRoom ⌝ }
+    ensures same { λ r. ⌜ ((l : List ℕ) → length l ≡ lineRoom → take r l ≡ take have l) ⌝ }
+{
+    if LINE_ROOM < have {
+        return LINE_ROOM;
+    }
+    have
+}

@@ -1,0 +1,123 @@
+// A line on the table, and a piece of what is read, in buffers that are long enough.
+ghost use mathlib.Core.Path.{_≡_};
+ghost use Prim.Native.Nat.{_≤_};
+ghost use lib.ListN.{length, take};
+ghost use Rattle.laws.specs.Stores.{Wrote};
+ghost use Rattle.model.specs.Tables.{effect};
+ghost use Rattle.table.specs.Layout.{layout};
+ghost use Rattle.decoder.specs.Entry.{asEffect};
+ghost use Rattle.line.specs.Line.{framed, countIn};
+ghost use Rattle.line.specs.Split.{lineRoom};
+ghost use Rattle.line.specs.Log.{lineStep};
+ghost use Rattle.line.specs.Reading.{onPiece, atEnd};
+ghost use Rattle.replay.specs.Fed.{Did};
+use crate::Fed;
+use line::Decoded;
+use line::Frame;
+use pending::Outcome;
+
+// The refusal of a line that is no frame.
+const NO_FRAME: u8 = 7;
+
+// Takes a piece up to its first byte 10 behind the `have` bytes that `held` keeps of the line, and steps the line where it ends.
+pub fn feed(
+    table: &mut [u32],
+    held: &mut [u8],
+    have: usize,
+    piece: &[u8],
+    frame: &mut [u8],
+    answers: &mut [u8],
+    out: &mut [u8],
+) -> Fed
+    requires { ⌜ (have ≤ lineRoom) × (lineRoom ≤ length (now held)) × (4184 ≤ length (now frame)) × (1056 ≤ length (now answers)) × (2112 ≤ length (now out)) ⌝ }
+    ensures fits { λ r. ⌜ (r .have ≤ lineRoom) × (r .written ≤ length (now (out .entry))) ⌝ }
+    ensures means { λ r. ⌜ Did (onPiece layout (record { table = now (table .entry); line = take have (now (held .entry)) }) (now (piece .entry))) r (now (table .exit)) (now (held .exit)) (now (out .entry)) (now (out .exit)) ⌝ }
+{
+    let gathered = line::gather(held, have, piece);
+    let used = gathered.used;
+    let end = gathered.have;
+    if !gathered.ended {
+        return Fed {
+            used: used,
+            have: end,
+            written: 0,
+        };
+    }
+    let written = log_line(table, &held[..end], frame, answers, out);
+    Fed {
+        used: used,
+        have: 0,
+        written: written,
+    }
+}
+
+// Steps the last line where the log ends without byte 10, unless it is empty.
+pub fn finish(
+    table: &mut [u32],
+    held: &[u8],
+    have: usize,
+    frame: &mut [u8],
+    answers: &mut [u8],
+    out: &mut [u8],
+) -> usize
+    requires { ⌜ (have ≤ length (now held)) × (4184 ≤ length (now frame)) × (1056 ≤ length (now answers)) × (2112 ≤ length (now out)) ⌝ }
+    ensures fits { λ r. ⌜ r ≤ length (now (out .entry)) ⌝ }
+    ensures means { λ r. ⌜ Wrote (now (out .entry)) (now (out .exit)) 0 r (atEnd layout (record { table = now (table .entry); line = take have (now (held .entry)) })) ⌝ }
+{
+    if have == 0 {
+        return 0;
+    }
+    log_line(table, &held[..have], frame, answers, out)
+}
+
+// Steps a line on the table and writes its lines from the start of `out`; returns the place after them. `frame` and `answers` are lent for
+// the while: a command's bytes, and the answers as the step writes them.
+fn log_line(
+    table: &mut [u32],
+    line: &[u8],
+    frame: &mut [u8],
+    answers: &mut [u8],
+    out: &mut [u8],
+) -> usize
+    requires { ⌜ (4184 ≤ length (now frame)) × (1056 ≤ length (now answers)) × (2112 ≤ length (now out)) ⌝ }
+    ensures fits { λ r. ⌜ r ≤ length (now (out .entry)) ⌝ }
+    ensures output { λ r. ⌜ Wrote (now (out .entry)) (now (out .exit)) 0 r (lineStep layout (now (table .entry)) (now (line .entry)) .output) ⌝ }
+    ensures table { λ _. ⌜ now (table .exit) ≡ lineStep layout (now (table .entry)) (now (line .entry)) .table ⌝ }
+{
+    let decoded = line::decode(line, frame);
+    let Decoded::Framed(found) = decoded else {
+        return line::put_refusal(NO_FRAME, out);
+    };
+    let outcome = carry_out(table, found, frame, answers);
+    let refusal = outcome.refusal;
+    let written = outcome.written as usize;
+    line::put_outcome(refusal, &answers[..written], out)
+}
+
+// Carries out the step of a frame.
+fn carry_out(table: &mut [u32], found: Frame, frame: &[u8], answers: &mut [u8]) -> Outcome
+    requires { ⌜ countIn found ≤ length (now frame) ⌝ }
+    ensures { λ r. ⌜ asEffect r (now (table .exit)) (now (answers .exit)) ≡ effect layout (now (table .entry)) (framed found (now (frame .entry))) (now (answers .entry)) ⌝ }
+{
+    match found {
+        Frame::Command { ticket, count } => {
+            decoder::virtio_video_command(table, ticket, &frame[..count], answers)
+        }
+        Frame::Finish {
+            stream,
+            queue,
+            resource,
+            flags,
+            timestamp,
+        } => decoder::virtio_video_finish(
+            table,
+            stream,
+            queue,
+            resource,
+            flags,
+            timestamp,
+            answers,
+        ),
+        Frame::Drained { stream } => decoder::virtio_video_drained(table, stream, answers),
+    }
+}

@@ -1,0 +1,422 @@
+/*
+ * A small host: it makes a device, plays a guest and a back end to it, and prints what the
+ * guest gets. Each step's result and bytes are compared with those worked out by hand from
+ * the draft and the scope; the exit status is 1 where any of them differs.
+ */
+#include <stdio.h>
+#include <stdlib.h>
+#include <string.h>
+
+#include "virtio_video_decoder.h"
+
+#define STREAM	7
+#define INPUT	VIRTIO_VIDEO_QUEUE_TYPE_INPUT
+#define OUTPUT	VIRTIO_VIDEO_QUEUE_TYPE_OUTPUT
+
+/* What stands in the room where the core has not written */
+#define UNTOUCHED 0xa5
+
+static uint32_t table[VIRTIO_VIDEO_TABLE_WORDS];
+static uint8_t room[VIRTIO_VIDEO_ANSWER_ROOM];
+static int failed;
+
+static void wrong(const char *what)
+{
+	printf("    WRONG: %s\n", what);
+	failed = 1;
+}
+
+static const char *type_name(uint32_t type)
+{
+	switch (type) {
+	case VIRTIO_VIDEO_RESP_OK_NODATA:
+		return "OK_NODATA";
+	case VIRTIO_VIDEO_RESP_OK_GET_PARAMS:
+		return "OK_GET_PARAMS";
+	case VIRTIO_VIDEO_RESP_ERR_INVALID_OPERATION:
+		return "ERR_INVALID_OPERATION";
+	case VIRTIO_VIDEO_RESP_ERR_OUT_OF_MEMORY:
+		return "ERR_OUT_OF_MEMORY";
+	case VIRTIO_VIDEO_RESP_ERR_INVALID_STREAM_ID:
+		return "ERR_INVALID_STREAM_ID";
+	case VIRTIO_VIDEO_RESP_ERR_INVALID_RESOURCE_ID:
+		return "ERR_INVALID_RESOURCE_ID";
+	case VIRTIO_VIDEO_RESP_ERR_INVALID_PARAMETER:
+		return "ERR_INVALID_PARAMETER";
+	case VIRTIO_VIDEO_RESP_ERR_UNSUPPORTED_CONTROL:
+		return "ERR_UNSUPPORTED_CONTROL";
+	default:
+		return "?";
+	}
+}
+
+static void show_response(const uint8_t *bytes, size_t length)
+{
+	struct virtio_video_cmd_hdr hdr;
+	struct virtio_video_resource_queue_resp buffer;
+	struct virtio_video_get_params_resp get;
+
+	memcpy(&hdr, bytes, sizeof(hdr));
+	printf("%s, stream %u", type_name(hdr.type), (unsigned)hdr.stream_id);
+	if (length == sizeof(buffer)) {
+		memcpy(&buffer, bytes, sizeof(buffer));
+		printf(", timestamp %llu%s%s", (unsigned long long)buffer.timestamp,
+		       buffer.flags & VIRTIO_VIDEO_BUFFER_FLAG_ERR ? ", ERR" : "",
+		       buffer.flags & VIRTIO_VIDEO_BUFFER_FLAG_EOS ? ", EOS" : "");
+	} else if (length == sizeof(get)) {
+		memcpy(&get, bytes, sizeof(get));
+		printf(", format 0x%x, %u by %u, %u planes", (unsigned)get.params.format,
+		       (unsigned)get.params.frame_width, (unsigned)get.params.frame_height,
+		       (unsigned)get.params.num_planes);
+	}
+	printf("\n");
+}
+
+/* Goes through the answers of a step, as a host does to pass them on. */
+static void show_answers(uint32_t written)
+{
+	struct virtio_video_answer answer;
+	size_t at = 0;
+
+	if (written == 0)
+		printf("    no answer yet\n");
+	while (at < written) {
+		if (written - at < sizeof(answer)) {
+			wrong("half an answer");
+			return;
+		}
+		memcpy(&answer, room + at, sizeof(answer));
+		at += sizeof(answer);
+		if (answer.length < sizeof(struct virtio_video_cmd_hdr) ||
+		    answer.length > written - at) {
+			wrong("a response that does not fit");
+			return;
+		}
+		printf("    to ticket %u: ", (unsigned)answer.ticket);
+		show_response(room + at, answer.length);
+		at += answer.length;
+	}
+}
+
+static int digit(char c)
+{
+	return c <= '9' ? c - '0' : c - 'a' + 10;
+}
+
+/*
+ * Compares a step's result, and the room from its first byte to its last, with what is
+ * expected: a refusal number, and the answers in hexadecimal with blanks between.
+ */
+static void expect(struct virtio_video_outcome outcome, uint32_t refusal, const char *hex)
+{
+	uint8_t bytes[VIRTIO_VIDEO_ANSWER_ROOM];
+	uint32_t count = 0;
+
+	memset(bytes, UNTOUCHED, sizeof(bytes));
+	while (*hex) {
+		if (*hex == ' ') {
+			hex++;
+			continue;
+		}
+		bytes[count++] = (uint8_t)(digit(hex[0]) << 4 | digit(hex[1]));
+		hex += 2;
+	}
+
+	if (outcome.refusal)
+		printf("    refused with %u\n", (unsigned)outcome.refusal);
+	else if (outcome.written <= sizeof(room))
+		show_answers(outcome.written);
+	if (outcome.refusal != refusal)
+		wrong("the result");
+	if (outcome.written != count)
+		wrong("the number of bytes");
+	if (memcmp(room, bytes, sizeof(room)) != 0)
+		wrong("the bytes");
+	memset(room, UNTOUCHED, sizeof(room));
+}
+
+/* A command of the guest: what it is, its bytes, and what is to come of it */
+static void command(uint32_t ticket, const char *what, const void *frame, size_t length,
+		    uint32_t refusal, const char *hex)
+{
+	uint8_t *copy = NULL;
+
+	/* out of the guest's memory, which the guest may change at any time */
+	if (length) {
+		copy = malloc(length);
+		if (!copy)
+			abort();
+		memcpy(copy, frame, length);
+	}
+	printf("guest, ticket %u: %s\n", (unsigned)ticket, what);
+	expect(virtio_video_command(table, VIRTIO_VIDEO_TABLE_WORDS, ticket, copy, length, room,
+				    sizeof(room)),
+	       refusal, hex);
+	free(copy);
+}
+
+static void finish(const char *what, uint32_t queue_type, uint32_t resource, uint32_t flags,
+		   uint64_t timestamp, uint32_t refusal, const char *hex)
+{
+	printf("back end: %s\n", what);
+	expect(virtio_video_finish(table, VIRTIO_VIDEO_TABLE_WORDS, STREAM, queue_type, resource,
+				   flags, timestamp, room, sizeof(room)),
+	       refusal, hex);
+}
+
+static void drained(uint32_t refusal, const char *hex)
+{
+	printf("back end: the stream is drained\n");
+	expect(virtio_video_drained(table, VIRTIO_VIDEO_TABLE_WORDS, STREAM, room, sizeof(room)),
+	       refusal, hex);
+}
+
+/* The guest's commands */
+
+static struct virtio_video_cmd_hdr header(uint32_t type)
+{
+	struct virtio_video_cmd_hdr hdr = { type, STREAM };
+
+	return hdr;
+}
+
+static void create(uint32_t ticket, const char *what, const char *tag, const char *hex)
+{
+	struct virtio_video_stream_create c;
+
+	memset(&c, 0, sizeof(c));
+	c.hdr = header(VIRTIO_VIDEO_CMD_STREAM_CREATE);
+	c.in_mem_type = VIRTIO_VIDEO_MEM_TYPE_GUEST_PAGES;
+	c.out_mem_type = VIRTIO_VIDEO_MEM_TYPE_GUEST_PAGES;
+	c.coded_format = VIRTIO_VIDEO_FORMAT_H264;
+	memcpy(c.tag, tag, strlen(tag));
+	command(ticket, what, &c, sizeof(c), 0, hex);
+}
+
+/* A resource of two planes, the first in one page and the second in another */
+static void import(uint32_t ticket, const char *what, uint32_t queue_type, uint32_t resource,
+		   const char *hex)
+{
+	struct {
+		struct virtio_video_resource_create head;
+		struct virtio_video_mem_entry entries[2];
+	} c;
+
+	memset(&c, 0, sizeof(c));
+	c.head.hdr = header(VIRTIO_VIDEO_CMD_RESOURCE_CREATE);
+	c.head.queue_type = queue_type;
+	c.head.resource_id = resource;
+	c.head.planes_layout = VIRTIO_VIDEO_PLANES_LAYOUT_PER_PLANE;
+	c.head.num_planes = 2;
+	c.head.num_entries[0] = 1;
+	c.head.num_entries[1] = 1;
+	c.entries[0].addr = 0x40000000;
+	c.entries[0].length = 4096;
+	/* ends with the last byte that there is */
+	c.entries[1].addr = UINT64_MAX - 4095;
+	c.entries[1].length = 4096;
+	command(ticket, what, &c, sizeof(c), 0, hex);
+}
+
+static void queue(uint32_t ticket, const char *what, uint32_t queue_type, uint32_t resource,
+		  uint64_t timestamp, const char *hex)
+{
+	struct virtio_video_resource_queue c;
+
+	memset(&c, 0, sizeof(c));
+	c.hdr = header(VIRTIO_VIDEO_CMD_RESOURCE_QUEUE);
+	c.queue_type = queue_type;
+	c.resource_id = resource;
+	c.timestamp = timestamp;
+	c.num_data_sizes = 1;
+	c.data_sizes[0] = 4096;
+	command(ticket, what, &c, sizeof(c), 0, hex);
+}
+
+/* A command of a header alone */
+static void plain(uint32_t ticket, const char *what, uint32_t type, const char *hex)
+{
+	struct virtio_video_cmd_hdr c = header(type);
+
+	command(ticket, what, &c, sizeof(c), 0, hex);
+}
+
+/* A command of a header and a queue type: they all have the layout of a clear */
+static void of_queue(uint32_t ticket, const char *what, uint32_t type, uint32_t queue_type,
+		     const char *hex)
+{
+	struct virtio_video_resource_queue_clear c;
+
+	memset(&c, 0, sizeof(c));
+	c.hdr = header(type);
+	c.queue_type = queue_type;
+	command(ticket, what, &c, sizeof(c), 0, hex);
+}
+
+static void set_output(uint32_t ticket, uint32_t width, uint32_t height, uint32_t rate,
+		       const char *hex)
+{
+	struct virtio_video_set_params c;
+
+	memset(&c, 0, sizeof(c));
+	c.hdr = header(VIRTIO_VIDEO_CMD_SET_PARAMS);
+	c.params.queue_type = OUTPUT;
+	c.params.format = VIRTIO_VIDEO_FORMAT_NV12;
+	c.params.frame_width = width;
+	c.params.frame_height = height;
+	c.params.frame_rate = rate;
+	command(ticket, "set the output's size and rate", &c, sizeof(c), 0, hex);
+}
+
+static void setting_up(void)
+{
+	create(1, "create a stream with a tag that is not UTF-8", "\xff",
+	       "01000000 08000000 04030000 07000000");
+	create(2, "create a stream", "lobby", "02000000 08000000 00020000 07000000");
+	create(3, "create it again", "", "03000000 08000000 02030000 07000000");
+	/* 1280 by 720 at 30 */
+	set_output(4, 1280, 720, 30, "04000000 08000000 00020000 07000000");
+	set_output(5, 1281, 720, 30, "05000000 08000000 04030000 07000000");
+	/* crop 0, 0, 1280, 720; planes of 921,600 and 460,800 bytes */
+	of_queue(6, "get the output's parameters", VIRTIO_VIDEO_CMD_GET_PARAMS, OUTPUT,
+		 "06000000 78000000 03020000 07000000"
+		 "01010000 03000000 00050000 d0020000 01000000 10000000"
+		 "00000000 00000000 00050000 d0020000 1e000000 02000000"
+		 "00100e00 00050000 00080700 00050000 00000000 00000000"
+		 "00000000 00000000 00000000 00000000 00000000 00000000"
+		 "00000000 00000000 00000000 00000000");
+	/* 640 by 480, one plane of 262,144 bytes */
+	of_queue(7, "get the input's parameters", VIRTIO_VIDEO_CMD_GET_PARAMS, INPUT,
+		 "07000000 78000000 03020000 07000000"
+		 "00010000 02100000 80020000 e0010000 01000000 10000000"
+		 "00000000 00000000 80020000 e0010000 00000000 01000000"
+		 "00000400 00000000 00000000 00000000 00000000 00000000"
+		 "00000000 00000000 00000000 00000000 00000000 00000000"
+		 "00000000 00000000 00000000 00000000");
+	import(8, "import input 5", INPUT, 5, "08000000 08000000 00020000 07000000");
+	import(9, "import input 6", INPUT, 6, "09000000 08000000 00020000 07000000");
+	/* a number of its own queue */
+	import(10, "import output 5", OUTPUT, 5, "0a000000 08000000 00020000 07000000");
+	import(11, "import output 5 again", OUTPUT, 5, "0b000000 08000000 03030000 07000000");
+}
+
+static void decoding(void)
+{
+	queue(12, "queue input 5", INPUT, 5, 1000, "");
+	queue(13, "queue output 5", OUTPUT, 5, 0, "");
+	queue(14, "queue input 5 again", INPUT, 5, 1, "0e000000 08000000 00030000 07000000");
+	queue(15, "queue output 6, which is not there", OUTPUT, 6, 0,
+	      "0f000000 08000000 03030000 07000000");
+	/* an input keeps its own timestamp, an output gets the report's */
+	finish("input 5 is done", INPUT, 5, 0, 77, 0,
+	       "0c000000 18000000 00020000 07000000 e803000000000000 00000000 00000000");
+	finish("input 5 is done, told twice", INPUT, 5, 0, 77,
+	       VIRTIO_VIDEO_REFUSAL_UNEXPECTED_REPORT, "");
+	finish("output 5 is done, with a flag for encoders", OUTPUT, 5,
+	       VIRTIO_VIDEO_BUFFER_FLAG_IFRAME, 1000, VIRTIO_VIDEO_REFUSAL_BAD_FLAGS, "");
+	finish("output 5 is done, EOS without a drain", OUTPUT, 5, VIRTIO_VIDEO_BUFFER_FLAG_EOS,
+	       1000, VIRTIO_VIDEO_REFUSAL_BAD_FLAGS, "");
+	finish("output 5 is done", OUTPUT, 5, 0, 1000, 0,
+	       "0d000000 18000000 00020000 07000000 e803000000000000 00000000 00000000");
+}
+
+static void draining(void)
+{
+	queue(16, "queue input 6", INPUT, 6, UINT64_C(0x100000002), "");
+	plain(17, "drain", VIRTIO_VIDEO_CMD_STREAM_DRAIN, "");
+	plain(18, "drain again", VIRTIO_VIDEO_CMD_STREAM_DRAIN,
+	      "12000000 08000000 00030000 07000000");
+	queue(19, "queue input 5 while draining", INPUT, 5, 1,
+	      "13000000 08000000 00030000 07000000");
+	queue(20, "queue output 5 while draining", OUTPUT, 5, 0, "");
+	drained(VIRTIO_VIDEO_REFUSAL_UNEXPECTED_REPORT, "");
+	finish("input 6 is done, and failed", INPUT, 6, VIRTIO_VIDEO_BUFFER_FLAG_ERR, 0, 0,
+	       "10000000 18000000 00020000 07000000 0200000001000000 01000000 00000000");
+	finish("output 5 is done, the last one", OUTPUT, 5, VIRTIO_VIDEO_BUFFER_FLAG_EOS,
+	       UINT64_C(0x100000002), 0,
+	       "14000000 18000000 00020000 07000000 0200000001000000 02000000 00000000");
+	drained(0, "11000000 08000000 00020000 07000000");
+	drained(VIRTIO_VIDEO_REFUSAL_UNEXPECTED_REPORT, "");
+}
+
+static void stopping(void)
+{
+	queue(21, "queue input 6", INPUT, 6, 60, "");
+	queue(22, "queue input 5", INPUT, 5, 50, "");
+	of_queue(23, "destroy all inputs", VIRTIO_VIDEO_CMD_RESOURCE_DESTROY_ALL, INPUT,
+		 "17000000 08000000 00030000 07000000");
+	plain(24, "drain", VIRTIO_VIDEO_CMD_STREAM_DRAIN, "");
+	of_queue(25, "clear the empty output queue", VIRTIO_VIDEO_CMD_QUEUE_CLEAR, OUTPUT,
+		 "19000000 08000000 00020000 07000000");
+	/* 5 before 6, then the drain, then itself */
+	of_queue(26, "clear the input queue", VIRTIO_VIDEO_CMD_QUEUE_CLEAR, INPUT,
+		 "16000000 18000000 00020000 07000000 3200000000000000 01000000 00000000"
+		 "15000000 18000000 00020000 07000000 3c00000000000000 01000000 00000000"
+		 "18000000 08000000 00020000 07000000"
+		 "1a000000 08000000 00020000 07000000");
+	of_queue(27, "destroy all inputs", VIRTIO_VIDEO_CMD_RESOURCE_DESTROY_ALL, INPUT,
+		 "1b000000 08000000 00020000 07000000");
+	of_queue(28, "query a control", VIRTIO_VIDEO_CMD_QUERY_CONTROL,
+		 VIRTIO_VIDEO_CONTROL_PROFILE, "1c000000 08000000 05030000 07000000");
+	plain(29, "query capability", VIRTIO_VIDEO_CMD_QUERY_CAPABILITY,
+	      "1d000000 08000000 00030000 07000000");
+	queue(30, "queue output 5", OUTPUT, 5, 90, "");
+	plain(31, "drain", VIRTIO_VIDEO_CMD_STREAM_DRAIN, "");
+	plain(32, "destroy the stream", VIRTIO_VIDEO_CMD_STREAM_DESTROY,
+	      "1e000000 18000000 00020000 07000000 5a00000000000000 01000000 00000000"
+	      "1f000000 08000000 00020000 07000000"
+	      "20000000 08000000 00020000 07000000");
+	plain(33, "destroy the stream again", VIRTIO_VIDEO_CMD_STREAM_DESTROY,
+	      "21000000 08000000 02030000 07000000");
+}
+
+/* The host's own slips, and a guest that sends half a header */
+static void refusals(void)
+{
+	struct virtio_video_cmd_hdr c = header(VIRTIO_VIDEO_CMD_STREAM_DRAIN);
+	const uint8_t *frame = (const uint8_t *)&c;
+
+	command(34, "a command of 7 bytes", &c, 7, VIRTIO_VIDEO_REFUSAL_SHORT_COMMAND, "");
+	command(35, "a command of no bytes", NULL, 0, VIRTIO_VIDEO_REFUSAL_SHORT_COMMAND, "");
+	printf("host: lends nothing\n");
+	expect(virtio_video_command(NULL, 0, 36, NULL, 0, NULL, 0),
+	       VIRTIO_VIDEO_REFUSAL_SHORT_TABLE, "");
+	printf("host: lends a short table\n");
+	expect(virtio_video_command(table, VIRTIO_VIDEO_TABLE_WORDS - 1, 37, frame, sizeof(c),
+				    room, sizeof(room)),
+	       VIRTIO_VIDEO_REFUSAL_SHORT_TABLE, "");
+	printf("host: lends a short room\n");
+	expect(virtio_video_command(table, VIRTIO_VIDEO_TABLE_WORDS, 38, frame, sizeof(c), room,
+				    sizeof(room) - 1),
+	       VIRTIO_VIDEO_REFUSAL_SHORT_ROOM, "");
+	printf("host: lends a table with a word changed\n");
+	table[VIRTIO_VIDEO_TABLE_WORDS - 1] = 1;
+	expect(virtio_video_command(table, VIRTIO_VIDEO_TABLE_WORDS, 39, frame, sizeof(c), room,
+				    sizeof(room)),
+	       VIRTIO_VIDEO_REFUSAL_INVALID_TABLE, "");
+	table[VIRTIO_VIDEO_TABLE_WORDS - 1] = 0;
+}
+
+int main(void)
+{
+	static const uint32_t empty[VIRTIO_VIDEO_TABLE_WORDS];
+
+	memset(table, 0xff, sizeof(table));
+	memset(room, UNTOUCHED, sizeof(room));
+	if (virtio_video_fresh(table, VIRTIO_VIDEO_TABLE_WORDS - 1) !=
+	    VIRTIO_VIDEO_REFUSAL_SHORT_TABLE)
+		wrong("a short table made fresh");
+	if (virtio_video_fresh(table, VIRTIO_VIDEO_TABLE_WORDS) != VIRTIO_VIDEO_REFUSAL_NONE)
+		wrong("a table not made fresh");
+
+	setting_up();
+	decoding();
+	draining();
+	stopping();
+	refusals();
+
+	if (memcmp(table, empty, sizeof(table)) != 0)
+		wrong("the table at the end is not fresh");
+	printf(failed ? "Some step went wrong.\n" : "Every step went as expected.\n");
+	return failed;
+}

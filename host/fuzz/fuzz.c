@@ -1,0 +1,498 @@
+/*
+ * A fuzz entry for libFuzzer and AFL++: raw bytes as table, frame and room, and runs of
+ * steps that lead to deep tables. docs/HOST.md says how it is built and run.
+ *
+ * The archive is not instrumented, so the sanitizers do not see its loads and stores.
+ * Instead each piece lent to it ends where a page begins that must not be touched, and
+ * what lies before and behind the bytes that it may write is compared. Each step is held to
+ * rules that hold whatever the input is; a breach ends the run by abort().
+ */
+#include <stdio.h>
+#include <stdlib.h>
+#include <string.h>
+#include <sys/mman.h>
+#include <unistd.h>
+
+#include "virtio_video_decoder.h"
+
+#define WORDS	VIRTIO_VIDEO_TABLE_WORDS
+#define ROOM	VIRTIO_VIDEO_ANSWER_ROOM
+
+/* Longest pieces that are lent */
+#define MOST_WORDS	(WORDS + 64)
+#define MOST_ROOM	(ROOM + 64)
+#define MOST_FRAME	8192
+
+#define CHECK(condition) \
+	do { \
+		if (!(condition)) { \
+			fprintf(stderr, "line %d: not so: %s\n", __LINE__, #condition); \
+			abort(); \
+		} \
+	} while (0)
+
+int LLVMFuzzerTestOneInput(const uint8_t *data, size_t size);
+
+/* --------------------------------------------------------------------------
+ * The input, read from its start; behind its end come zeros
+ */
+
+static const uint8_t *input;
+static size_t left;
+
+static uint8_t byte(void)
+{
+	if (!left)
+		return 0;
+	left--;
+	return *input++;
+}
+
+static uint32_t half(void)
+{
+	uint32_t low = byte();
+
+	return low | (uint32_t)byte() << 8;
+}
+
+static void fill(void *to, size_t count)
+{
+	size_t have = count < left ? count : left;
+
+	if (have)
+		memcpy(to, input, have);
+	memset((uint8_t *)to + have, 0, count - have);
+	input += have;
+	left -= have;
+}
+
+/* Mostly the edge itself; else one below, one above, or any number up to most */
+static size_t length_near(size_t edge, size_t most)
+{
+	switch (byte()) {
+	case 1:
+		return edge - 1;
+	case 2:
+		return edge + 1;
+	case 3:
+		return half() % (most + 1);
+	default:
+		return edge;
+	}
+}
+
+/* --------------------------------------------------------------------------
+ * Memory that is lent
+ */
+
+struct lent {
+	uint8_t *end;		/* the page from here on must not be touched */
+	size_t most;
+};
+
+static struct lent table_area, frame_area, room_area;
+
+static void reserve(struct lent *area, size_t most)
+{
+	size_t page = (size_t)sysconf(_SC_PAGESIZE);
+	size_t size = (most + 64 + page - 1) / page * page;
+	uint8_t *start = mmap(NULL, size + 2 * page, PROT_NONE, MAP_PRIVATE | MAP_ANONYMOUS, -1, 0);
+
+	CHECK(start != MAP_FAILED);
+	CHECK(mprotect(start + page, size, PROT_READ | PROT_WRITE) == 0);
+	area->end = start + page + size;
+	area->most = most;
+}
+
+/* The last so many bytes of an area, and a mark before them */
+static uint8_t *lend(const struct lent *area, size_t bytes)
+{
+	CHECK(bytes <= area->most);
+	memset(area->end - bytes - 64, 0x5a, 64);
+	return area->end - bytes;
+}
+
+static void untouched_before(const uint8_t *start)
+{
+	size_t i;
+
+	for (i = 1; i <= 64; i++)
+		CHECK(start[-(ptrdiff_t)i] == 0x5a);
+}
+
+/* --------------------------------------------------------------------------
+ * One step, held to the rules
+ */
+
+enum kind { COMMAND, FINISH, DRAINED };
+
+struct step {
+	enum kind kind;
+	uint32_t ticket;
+	const uint8_t *frame;
+	size_t frame_len;
+	uint32_t stream, queue_type, resource, flags;
+	uint64_t timestamp;
+};
+
+static uint32_t *table;
+static size_t words;
+static uint8_t *room;
+static size_t room_len;
+
+#ifdef __clang__
+/* The core has no counters of its own, so the outcomes of steps lead the fuzzer. */
+__attribute__((section("__libfuzzer_extra_counters")))
+#endif
+static uint8_t seen[4096];
+
+static struct virtio_video_outcome call(const struct step *s)
+{
+	switch (s->kind) {
+	case COMMAND:
+		return virtio_video_command(table, words, s->ticket, s->frame, s->frame_len, room,
+					    room_len);
+	case FINISH:
+		return virtio_video_finish(table, words, s->stream, s->queue_type, s->resource,
+					   s->flags, s->timestamp, room, room_len);
+	default:
+		return virtio_video_drained(table, words, s->stream, room, room_len);
+	}
+}
+
+/* Whether the table is valid: a command of no bytes tells, and changes nothing. */
+static int valid(void)
+{
+	static uint8_t spare[ROOM];
+	uint32_t refusal =
+		virtio_video_command(table, words, 0, NULL, 0, spare, sizeof(spare)).refusal;
+
+	CHECK(refusal == VIRTIO_VIDEO_REFUSAL_INVALID_TABLE ||
+	      refusal == VIRTIO_VIDEO_REFUSAL_SHORT_COMMAND);
+	return refusal == VIRTIO_VIDEO_REFUSAL_SHORT_COMMAND;
+}
+
+/* Goes through the answers; gives their number, and whether one of them is an error. */
+static unsigned answers(uint32_t written, int *error)
+{
+	struct virtio_video_answer answer;
+	struct virtio_video_cmd_hdr hdr;
+	unsigned count = 0;
+	size_t at = 0;
+
+	*error = 0;
+	while (at < written) {
+		CHECK(written - at >= sizeof(answer) + sizeof(hdr));
+		memcpy(&answer, room + at, sizeof(answer));
+		memcpy(&hdr, room + at + sizeof(answer), sizeof(hdr));
+		at += sizeof(answer);
+		CHECK(answer.length <= written - at);
+		switch (hdr.type) {
+		case VIRTIO_VIDEO_RESP_OK_NODATA:
+			CHECK(answer.length == 8 || answer.length == 24);
+			break;
+		case VIRTIO_VIDEO_RESP_OK_GET_PARAMS:
+			CHECK(answer.length == 120);
+			break;
+		default:
+			CHECK(hdr.type >= VIRTIO_VIDEO_RESP_ERR_INVALID_OPERATION);
+			CHECK(hdr.type <= VIRTIO_VIDEO_RESP_ERR_UNSUPPORTED_CONTROL);
+			CHECK(answer.length == 8);
+			*error = 1;
+		}
+		at += answer.length;
+		count++;
+	}
+	return count;
+}
+
+static void step(const struct step *s)
+{
+	static uint32_t table_before[MOST_WORDS];
+	static uint8_t room_before[MOST_ROOM];
+	struct virtio_video_outcome outcome;
+	int was_valid, error = 0;
+	unsigned count = 0;
+	uint32_t first = 0, what, came;
+
+	was_valid = words >= WORDS && valid();
+	memcpy(table_before, table, words * 4);
+	memcpy(room_before, room, room_len);
+
+	outcome = call(s);
+
+	untouched_before((const uint8_t *)table);
+	untouched_before(room);
+	CHECK((outcome.refusal == VIRTIO_VIDEO_REFUSAL_SHORT_TABLE) == (words < WORDS));
+	if (words >= WORDS) {
+		CHECK((outcome.refusal == VIRTIO_VIDEO_REFUSAL_SHORT_ROOM) == (room_len < ROOM));
+		if (room_len >= ROOM)
+			CHECK((outcome.refusal == VIRTIO_VIDEO_REFUSAL_INVALID_TABLE) == !was_valid);
+		CHECK(valid() == was_valid);
+	}
+	if (outcome.refusal > VIRTIO_VIDEO_REFUSAL_SHORT_ROOM) {
+		if (s->kind == COMMAND)
+			CHECK(outcome.refusal == VIRTIO_VIDEO_REFUSAL_SHORT_COMMAND);
+		else
+			CHECK(outcome.refusal == VIRTIO_VIDEO_REFUSAL_UNEXPECTED_REPORT ||
+			      (s->kind == FINISH &&
+			       outcome.refusal == VIRTIO_VIDEO_REFUSAL_BAD_FLAGS));
+	}
+	if (s->kind == COMMAND && outcome.refusal == VIRTIO_VIDEO_REFUSAL_NONE)
+		CHECK(s->frame_len >= sizeof(struct virtio_video_cmd_hdr));
+	if (outcome.refusal == VIRTIO_VIDEO_REFUSAL_NONE) {
+		CHECK(outcome.written <= ROOM);
+		count = answers(outcome.written, &error);
+		if (s->kind != COMMAND)
+			CHECK(count == 1 && !error);
+		if (error)
+			CHECK(count == 1);
+		if (count)
+			memcpy(&first, room + 8, 4);
+	} else {
+		CHECK(outcome.written == 0);
+	}
+	CHECK(memcmp(room + outcome.written, room_before + outcome.written,
+		     room_len - outcome.written) == 0);
+	if (outcome.refusal || error)
+		CHECK(memcmp(table, table_before, words * 4) == 0);
+	else
+		CHECK(memcmp(table + WORDS, table_before + WORDS, (words - WORDS) * 4) == 0);
+
+	/* what kind of step, its refusal or first response, and how many answers */
+	what = s->kind * 16 + (s->kind == COMMAND && s->frame_len ? s->frame[0] & 15 : 0);
+	came = outcome.refusal ? outcome.refusal : (first >> 4 & 0x30) | (first & 7) | 8;
+	seen[what * 64 + (came & 63)] |= (uint8_t)(1u << (count < 7 ? count : 7));
+}
+
+/* --------------------------------------------------------------------------
+ * Steps out of the input
+ */
+
+static void put32(uint8_t *frame, size_t at, uint32_t value)
+{
+	memcpy(frame + at, &value, sizeof(value));
+}
+
+/* A good command of this type, numbers from the input; gives its length. */
+static size_t shape(uint8_t *frame, uint32_t type)
+{
+	static const size_t lengths[16] = { 16, 88, 8, 8, 88, 64, 16, 16, 16, 120, 16, 16, 16, 8, 8, 8 };
+	size_t length = lengths[type & 15];
+	uint32_t numbers = byte(), sizes, entries, i;
+	uint32_t queue_type = VIRTIO_VIDEO_QUEUE_TYPE_INPUT + (numbers >> 7);
+
+	memset(frame, 0, MOST_FRAME);
+	put32(frame, 0, type);
+	put32(frame, 4, numbers & 15);
+	if (length > 8)
+		put32(frame, 8, queue_type);
+	switch (type) {
+	case VIRTIO_VIDEO_CMD_STREAM_CREATE:
+		put32(frame, 8, VIRTIO_VIDEO_MEM_TYPE_GUEST_PAGES);
+		put32(frame, 16, VIRTIO_VIDEO_FORMAT_MPEG2 + (numbers >> 4) % 6);
+		sizes = byte();
+		if (sizes & 0x80)
+			fill(frame + 24, sizes & 63);
+		else
+			memset(frame + 24, 'a', sizes & 63);
+		break;
+	case VIRTIO_VIDEO_CMD_RESOURCE_CREATE:
+		put32(frame, 12, byte() & 31);
+		sizes = byte();
+		put32(frame, 16, 1 + (sizes & 1));
+		put32(frame, 20, 1 + (sizes >> 1 & 7));
+		entries = (sizes & 0x80) ? 256 : 1 + (sizes >> 4 & 7);
+		put32(frame, 56, entries);
+		for (i = 0; i < entries; i++)
+			put32(frame, length + 16 * i + 8, 1 + i);
+		length += 16 * entries;
+		break;
+	case VIRTIO_VIDEO_CMD_RESOURCE_QUEUE:
+		put32(frame, 12, byte() & 31);
+		fill(frame + 16, 8);
+		put32(frame, 24, byte() & 7);
+		break;
+	case VIRTIO_VIDEO_CMD_SET_PARAMS:
+		sizes = half();
+		put32(frame, 12, numbers >> 7 ? VIRTIO_VIDEO_FORMAT_NV12
+					      : VIRTIO_VIDEO_FORMAT_MPEG2 + (numbers >> 4 & 7));
+		put32(frame, 16, 2 * (8 + sizes % 2041));
+		put32(frame, 20, 2 * (8 + sizes / 16 % 2041));
+		put32(frame, 48, byte());
+		break;
+	default:
+		break;
+	}
+	/* and now and then bytes of it changed */
+	if (numbers & 0x40 && numbers & 0x20)
+		for (i = byte() & 3; i > 0; i--)
+			frame[half() % (length + 1)] = byte();
+	return length;
+}
+
+static void command(uint32_t ticket, const uint8_t *bytes, size_t length)
+{
+	struct step s;
+	uint8_t *frame = lend(&frame_area, length);
+
+	memset(&s, 0, sizeof(s));
+	s.kind = COMMAND;
+	s.ticket = ticket;
+	s.frame = length ? frame : NULL;
+	s.frame_len = length;
+	memcpy(frame, bytes, length);
+	step(&s);
+	CHECK(memcmp(frame, bytes, length) == 0);
+	untouched_before(frame);
+}
+
+/* So many creations, imports or queueings in a row, which lead to full tables */
+static void burst(uint8_t *frame, uint8_t op)
+{
+	static const uint32_t types[4] = {
+		VIRTIO_VIDEO_CMD_STREAM_CREATE, VIRTIO_VIDEO_CMD_RESOURCE_CREATE,
+		VIRTIO_VIDEO_CMD_RESOURCE_QUEUE, VIRTIO_VIDEO_CMD_RESOURCE_QUEUE,
+	};
+	uint32_t type = types[op & 3], count = byte() & 31, i;
+	size_t length = shape(frame, type);
+
+	for (i = 0; i < count; i++) {
+		put32(frame, type == VIRTIO_VIDEO_CMD_STREAM_CREATE ? 4 : 12, i);
+		command(i, frame, length);
+	}
+}
+
+static void one_step(void)
+{
+	static uint8_t frame[MOST_FRAME];
+	struct step s;
+	size_t length;
+	uint32_t ticket;
+	uint8_t op = byte();
+
+	memset(&s, 0, sizeof(s));
+	switch (op & 7) {
+	case 0:
+		/* raw bytes */
+		length = op & 8 ? half() % (MOST_FRAME + 1) : byte();
+		fill(frame, length);
+		command(op, frame, length);
+		break;
+	case 1:
+		s.kind = DRAINED;
+		s.stream = byte() & 15;
+		step(&s);
+		break;
+	case 2:
+	case 3:
+		s.kind = FINISH;
+		s.stream = byte() & 15;
+		s.queue_type = VIRTIO_VIDEO_QUEUE_TYPE_INPUT + (op >> 3 & 1);
+		if (op & 0x80)
+			s.queue_type = half();
+		s.resource = byte() & 31;
+		s.flags = op & 0x40 ? byte() : op >> 4 & 3;
+		fill(&s.timestamp, sizeof(s.timestamp));
+		step(&s);
+		break;
+	case 4:
+		burst(frame, op >> 3);
+		break;
+	default:
+		ticket = half() * 0x10001;
+		length = shape(frame, 0x0100 + (op >> 3 & 15));
+		if (op & 0x80)
+			length = length - 1 + byte() % 3;
+		command(ticket, frame, length);
+		break;
+	}
+}
+
+static void lend_room(void)
+{
+	room_len = length_near(ROOM, MOST_ROOM);
+	room = lend(&room_area, room_len);
+	memset(room, byte(), room_len);
+}
+
+/* An input that fills more of the table than others is worth keeping. */
+static void note_fullness(void)
+{
+	size_t i, full = 0;
+
+	for (i = 0; i < words && i < WORDS; i++)
+		full += table[i] != 0;
+	seen[3072 + full / 4 % 1024] = 1;
+}
+
+int LLVMFuzzerTestOneInput(const uint8_t *data, size_t size)
+{
+	uint8_t mode;
+
+	if (!table_area.end) {
+		reserve(&table_area, MOST_WORDS * 4);
+		reserve(&frame_area, MOST_FRAME);
+		reserve(&room_area, MOST_ROOM);
+	}
+	input = data;
+	left = size;
+	mode = byte();
+	words = length_near(WORDS, MOST_WORDS);
+	table = (uint32_t *)(void *)lend(&table_area, words * 4);
+	lend_room();
+
+	if (mode & 1) {
+		/* raw words, then one step after another until the bytes run out */
+		fill(table, words * 4);
+		do
+			one_step();
+		while (left);
+		return 0;
+	}
+
+	/* a device made by steps; at the end, if the mode says so, words are changed */
+	memset(table, 0x5a, words * 4);
+	CHECK(virtio_video_fresh(table, words) ==
+	      (words < WORDS ? VIRTIO_VIDEO_REFUSAL_SHORT_TABLE : VIRTIO_VIDEO_REFUSAL_NONE));
+	while (left > 8)
+		one_step();
+	note_fullness();
+	if (mode & 2 && words) {
+		table[half() % words] = byte();
+		table[half() % words] ^= 1u << (byte() & 31);
+		lend_room();
+		one_step();
+	}
+	return 0;
+}
+
+#ifdef STANDALONE
+/* Runs the files that are named, or else standard input, once each. */
+static void run(FILE *file)
+{
+	static uint8_t bytes[1 << 20];
+	size_t size = fread(bytes, 1, sizeof(bytes), file);
+
+	LLVMFuzzerTestOneInput(bytes, size);
+}
+
+int main(int argc, char **argv)
+{
+	int i;
+
+	if (argc < 2)
+		run(stdin);
+	for (i = 1; i < argc; i++) {
+		FILE *file = fopen(argv[i], "rb");
+
+		if (!file) {
+			perror(argv[i]);
+			return 2;
+		}
+		run(file);
+		fclose(file);
+	}
+	return 0;
+}
+#endif

@@ -1,0 +1,115 @@
+//! The four functions of the archive, over lent slices.
+//!
+//! This is the only module with `unsafe`, and it holds nothing else: a Rust slice is what the
+//! functions ask of a pointer and its count (true length, alignment, nobody else at it). They take
+//! any contents and any lengths, so each is a safe function. A [`Decoder`](crate::Decoder) is the
+//! easier way to call them; these are for a host that keeps the table in memory of its own.
+
+#![allow(unsafe_code)]
+
+/// The result of a step.
+#[repr(C)]
+#[derive(Clone, Copy, Debug, PartialEq, Eq)]
+pub struct Outcome {
+    /// 0, or the number of a [`Refusal`](crate::Refusal); then nothing was changed.
+    pub refusal: u32,
+    /// Bytes of answers at the start of the room; 0 with a refusal.
+    pub written: u32,
+}
+
+extern "C" {
+    fn virtio_video_fresh(table: *mut u32, words: usize) -> u32;
+
+    fn virtio_video_command(
+        table: *mut u32,
+        words: usize,
+        ticket: u32,
+        frame: *const u8,
+        frame_len: usize,
+        answers: *mut u8,
+        answers_len: usize,
+    ) -> Outcome;
+
+    fn virtio_video_finish(
+        table: *mut u32,
+        words: usize,
+        stream: u32,
+        queue_type: u32,
+        resource: u32,
+        flags: u32,
+        timestamp: u64,
+        answers: *mut u8,
+        answers_len: usize,
+    ) -> Outcome;
+
+    fn virtio_video_drained(
+        table: *mut u32,
+        words: usize,
+        stream: u32,
+        answers: *mut u8,
+        answers_len: usize,
+    ) -> Outcome;
+}
+
+/// Makes the table that of a device without streams; gives 0, or 1 for a short table.
+pub fn fresh(table: &mut [u32]) -> u32 {
+    // SAFETY: pointer and length are those of one slice that is lent for the call.
+    unsafe { virtio_video_fresh(table.as_mut_ptr(), table.len()) }
+}
+
+/// A command of the guest.
+pub fn command(table: &mut [u32], ticket: u32, frame: &[u8], answers: &mut [u8]) -> Outcome {
+    // SAFETY: each pointer and length are those of one slice that is lent for the call. The two
+    // that are written are exclusive, so that no two of the three overlap.
+    unsafe {
+        virtio_video_command(
+            table.as_mut_ptr(),
+            table.len(),
+            ticket,
+            frame.as_ptr(),
+            frame.len(),
+            answers.as_mut_ptr(),
+            answers.len(),
+        )
+    }
+}
+
+/// A report that a buffer is finished. The numbers may be any.
+pub fn finish(
+    table: &mut [u32],
+    stream: u32,
+    queue_type: u32,
+    resource: u32,
+    flags: u32,
+    timestamp: u64,
+    answers: &mut [u8],
+) -> Outcome {
+    // SAFETY: as in `command`.
+    unsafe {
+        virtio_video_finish(
+            table.as_mut_ptr(),
+            table.len(),
+            stream,
+            queue_type,
+            resource,
+            flags,
+            timestamp,
+            answers.as_mut_ptr(),
+            answers.len(),
+        )
+    }
+}
+
+/// A report that a stream is drained.
+pub fn drained(table: &mut [u32], stream: u32, answers: &mut [u8]) -> Outcome {
+    // SAFETY: as in `command`.
+    unsafe {
+        virtio_video_drained(
+            table.as_mut_ptr(),
+            table.len(),
+            stream,
+            answers.as_mut_ptr(),
+            answers.len(),
+        )
+    }
+}

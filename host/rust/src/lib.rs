@@ -1,0 +1,230 @@
+//! The command core of a virtio-video decoder (device 31, version 0), for a host in Rust.
+//!
+//! A host hands a [`Decoder`] the commands that its guest sends and the reports of its decoding back
+//! end, and passes the answers on to the guest. The core behind it is an archive whose functions are
+//! proved against their definition; this package only lends it memory. It has no dependencies.
+//!
+//! ```
+//! use virtio_video_decoder::{wire, Decoder, Finish, QueueType, Refusal};
+//!
+//! // The guest's side: frames as they come out of the command queue.
+//! fn frame(words: &[u32], length: usize) -> Vec<u8> {
+//!     let mut bytes: Vec<u8> = words.iter().flat_map(|word| word.to_le_bytes()).collect();
+//!     bytes.resize(length, 0);
+//!     bytes
+//! }
+//! let create = frame(&[wire::CMD_STREAM_CREATE, 7, 0, 0, wire::FORMAT_H264], 88);
+//! let mut import = frame(&[wire::CMD_RESOURCE_CREATE, 7, wire::QUEUE_TYPE_INPUT, 5, 1, 1], 88);
+//! import[56] = 1; // one entry for the first plane
+//! import.extend(frame(&[0x8000, 0, 4096], 16));
+//! let queue = frame(&[wire::CMD_RESOURCE_QUEUE, 7, wire::QUEUE_TYPE_INPUT, 5, 1000], 64);
+//!
+//! let mut decoder = Decoder::new();
+//! for (ticket, command) in [(1, &create), (2, &import)] {
+//!     let answer = decoder.command(ticket, command)?.next().unwrap();
+//!     assert_eq!(answer.ticket, ticket);
+//!     assert_eq!(answer.response, [0, 2, 0, 0, 7, 0, 0, 0]);
+//! }
+//!
+//! // A queueing is answered when the back end is done with the buffer.
+//! assert_eq!(decoder.command(3, &queue)?.count(), 0);
+//! let done = Finish { stream: 7, queue: QueueType::Input, resource: 5, flags: 0, timestamp: 0 };
+//! let answer = decoder.finish(done)?.next().unwrap();
+//! assert_eq!(answer.ticket, 3);
+//! assert_eq!(answer.response.len(), 24);
+//!
+//! // It is not Queued any more, so a second report is refused, and nothing changes.
+//! assert_eq!(decoder.finish(done).unwrap_err(), Refusal::UnexpectedReport);
+//! # Ok::<(), Refusal>(())
+//! ```
+
+#![deny(unsafe_code)]
+#![warn(missing_docs)]
+
+mod answer;
+pub mod ffi;
+mod refusal;
+pub mod wire;
+
+pub use answer::{Answer, Answers, Params, Response};
+pub use refusal::Refusal;
+
+use std::fmt;
+use wire::{ANSWER_ROOM, TABLE_WORDS};
+
+/// Which of a stream's two queues.
+#[derive(Clone, Copy, Debug, PartialEq, Eq, Hash)]
+#[repr(u32)]
+pub enum QueueType {
+    /// Coded data, from the guest.
+    Input = wire::QUEUE_TYPE_INPUT,
+    /// Pictures, to the guest.
+    Output = wire::QUEUE_TYPE_OUTPUT,
+}
+
+impl QueueType {
+    /// The number on the wire.
+    pub const fn number(self) -> u32 {
+        self as u32
+    }
+}
+
+/// A report of the back end: it is done with a Queued buffer.
+#[derive(Clone, Copy, Debug, PartialEq, Eq)]
+pub struct Finish {
+    /// The stream's number.
+    pub stream: u32,
+    /// The queue that the buffer is of.
+    pub queue: QueueType,
+    /// The resource's number.
+    pub resource: u32,
+    /// [`wire::BUFFER_FLAG_ERR`], and on the last output of a drain [`wire::BUFFER_FLAG_EOS`].
+    pub flags: u32,
+    /// For an output: that of the input which it was decoded from. Not used for an input.
+    pub timestamp: u64,
+}
+
+/// A device: its table of 4,096 words, and a room for the answers of one step.
+///
+/// The table is all that a device is. A copy of it ([`table`](Decoder::table)) is a saved device, and
+/// [`from_words`](Decoder::from_words) is that device again. A clone is a second device.
+#[derive(Clone)]
+pub struct Decoder {
+    table: Box<[u32; TABLE_WORDS]>,
+    room: Box<[u8; ANSWER_ROOM]>,
+}
+
+impl Decoder {
+    /// A device without streams.
+    pub fn new() -> Self {
+        let mut decoder = Self::from_words(&[0; TABLE_WORDS]);
+        decoder.reset();
+        decoder
+    }
+
+    /// The device that these words stand for, which are those of an earlier [`table`](Decoder::table).
+    ///
+    /// Any words are taken. If they stand for no device, each step is refused with
+    /// [`Refusal::InvalidTable`].
+    ///
+    /// ```
+    /// use virtio_video_decoder::{Decoder, Refusal};
+    ///
+    /// let saved = *Decoder::new().table();
+    /// let mut restored = Decoder::from_words(&saved);
+    /// assert_eq!(restored.drained(7).unwrap_err(), Refusal::UnexpectedReport);
+    ///
+    /// let mut damaged = saved;
+    /// damaged[5] = 1; // a word without use
+    /// let mut decoder = Decoder::from_words(&damaged);
+    /// assert_eq!(decoder.drained(7).unwrap_err(), Refusal::InvalidTable);
+    /// ```
+    pub fn from_words(words: &[u32; TABLE_WORDS]) -> Self {
+        Decoder { table: Box::new(*words), room: Box::new([0; ANSWER_ROOM]) }
+    }
+
+    /// The words of the device. Their layout is in `docs/LAYOUT.md`.
+    pub fn table(&self) -> &[u32; TABLE_WORDS] {
+        &self.table
+    }
+
+    /// Makes this a device without streams, as at a reset of the virtio device. What it still owed
+    /// is not answered.
+    pub fn reset(&mut self) {
+        let refusal = ffi::fresh(self.table.as_mut_slice());
+        debug_assert_eq!(refusal, 0, "the table has its full length");
+    }
+
+    /// A command of the guest, any bytes.
+    ///
+    /// The ticket is the host's own number for the command, and comes back with its answer: at once,
+    /// or with a later step for a queueing or a drain that is accepted. Tickets may repeat.
+    ///
+    /// # Errors
+    ///
+    /// [`Refusal::ShortCommand`] for fewer than 8 bytes, and [`Refusal::InvalidTable`]. A command that
+    /// fails is no refusal: its answer tells the guest.
+    pub fn command(&mut self, ticket: u32, frame: &[u8]) -> Result<Answers<'_>, Refusal> {
+        let outcome =
+            ffi::command(self.table.as_mut_slice(), ticket, frame, self.room.as_mut_slice());
+        self.answers(outcome)
+    }
+
+    /// The back end is done with a Queued buffer, whose queueing is now answered.
+    ///
+    /// # Errors
+    ///
+    /// [`Refusal::UnexpectedReport`], [`Refusal::BadFlags`] and [`Refusal::InvalidTable`].
+    ///
+    /// ```
+    /// use virtio_video_decoder::{Decoder, Finish, QueueType, Refusal};
+    ///
+    /// let report = Finish {
+    ///     stream: 7,
+    ///     queue: QueueType::Output,
+    ///     resource: 5,
+    ///     flags: 0,
+    ///     timestamp: 1000,
+    /// };
+    /// assert_eq!(Decoder::new().finish(report).unwrap_err(), Refusal::UnexpectedReport);
+    /// ```
+    pub fn finish(&mut self, report: Finish) -> Result<Answers<'_>, Refusal> {
+        let outcome = ffi::finish(
+            self.table.as_mut_slice(),
+            report.stream,
+            report.queue.number(),
+            report.resource,
+            report.flags,
+            report.timestamp,
+            self.room.as_mut_slice(),
+        );
+        self.answers(outcome)
+    }
+
+    /// The back end has drained the stream, whose drain is now answered.
+    ///
+    /// # Errors
+    ///
+    /// [`Refusal::UnexpectedReport`] and [`Refusal::InvalidTable`].
+    ///
+    /// ```
+    /// use virtio_video_decoder::{wire, Decoder, Refusal};
+    ///
+    /// let mut create = [0; 88];
+    /// create[..2].copy_from_slice(&[0x01, 0x01]);
+    /// create[16..18].copy_from_slice(&[0x02, 0x10]); // H.264
+    /// let drain = [0x03, 0x01, 0, 0, 0, 0, 0, 0];
+    ///
+    /// let mut decoder = Decoder::new();
+    /// decoder.command(1, &create)?;
+    /// assert_eq!(decoder.command(2, &drain)?.count(), 0);
+    /// assert_eq!(decoder.drained(0)?.next().unwrap().ticket, 2);
+    /// # Ok::<(), Refusal>(())
+    /// ```
+    pub fn drained(&mut self, stream: u32) -> Result<Answers<'_>, Refusal> {
+        let outcome = ffi::drained(self.table.as_mut_slice(), stream, self.room.as_mut_slice());
+        self.answers(outcome)
+    }
+
+    /// What a step wrote into the room, or why it was refused.
+    fn answers(&self, outcome: ffi::Outcome) -> Result<Answers<'_>, Refusal> {
+        match outcome.refusal {
+            0 => Ok(Answers::new(&self.room[..outcome.written as usize])),
+            number => Err(Refusal::from_number(number).unwrap_or_else(|| {
+                panic!("refusal {number} is not known: archive and package do not match")
+            })),
+        }
+    }
+}
+
+impl Default for Decoder {
+    fn default() -> Self {
+        Self::new()
+    }
+}
+
+impl fmt::Debug for Decoder {
+    fn fmt(&self, f: &mut fmt::Formatter<'_>) -> fmt::Result {
+        f.debug_struct("Decoder").finish_non_exhaustive()
+    }
+}

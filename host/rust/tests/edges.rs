@@ -1,0 +1,374 @@
+//! Document 01's edges and examples with the answers that it gives, written out by hand. They hold
+//! the independent device to the paper, and the system under test too.
+
+mod independent;
+
+use independent::device::*;
+use independent::frames::*;
+use independent::layout::{BLOCK, WORDS};
+use independent::on_words::{Core, OnWords, Outcome};
+use independent::UnderTest;
+
+const MPEG2: u32 = 0x1000;
+const H264: u32 = 0x1002;
+
+/// A host with one table.
+struct Host<C> {
+    core: C,
+    table: Vec<u32>,
+}
+
+/// Answers as (ticket, words of the response), or the refusal.
+type Answered = Result<Vec<(u32, Vec<u32>)>, u32>;
+
+impl<C: Core + Default> Host<C> {
+    fn new() -> Host<C> {
+        let core = C::default();
+        let mut table = vec![0x5a5a_5a5a; WORDS + 1];
+        assert_eq!(core.fresh(&mut table), 0);
+        assert!(table[..WORDS].iter().all(|&word| word == 0));
+        assert_eq!(table[WORDS], 0x5a5a_5a5a);
+        Host { core, table }
+    }
+
+    /// A host with stream 7 live.
+    fn with_stream() -> Host<C> {
+        let mut host = Host::new();
+        assert_eq!(host.command(1, &stream_create(7, H264, b"seven")), ok(1, 7));
+        host
+    }
+
+    fn command(&mut self, ticket: u32, frame: &[u8]) -> Answered {
+        let mut room = [0xee; ROOM];
+        let outcome = self.core.command(&mut self.table, ticket, frame, &mut room);
+        answered(outcome, &room)
+    }
+
+    fn finish(
+        &mut self,
+        stream: u32,
+        queue_type: u32,
+        resource: u32,
+        flags: u32,
+        timestamp: u64,
+    ) -> Answered {
+        let mut room = [0xee; ROOM];
+        let report = Report { stream, queue_type, resource, flags, timestamp };
+        let outcome = self.core.finish(&mut self.table, &report, &mut room);
+        answered(outcome, &room)
+    }
+
+    fn drained(&mut self, stream: u32) -> Answered {
+        let mut room = [0xee; ROOM];
+        let outcome = self.core.drained(&mut self.table, stream, &mut room);
+        answered(outcome, &room)
+    }
+
+    /// Creates a resource of stream 7.
+    fn resource(&mut self, queue_type: u32, resource: u32) {
+        let frame = resource_create(7, queue_type, resource, &[1], &[(0, 1)]);
+        assert_eq!(self.command(1, &frame), ok(1, 7));
+    }
+
+    /// Queues a resource of stream 7.
+    fn queue(&mut self, ticket: u32, queue_type: u32, resource: u32, timestamp: u64) {
+        let frame = resource_queue(7, queue_type, resource, timestamp, 1);
+        assert_eq!(self.command(ticket, &frame), Ok(vec![]));
+    }
+
+    fn drain(&mut self, ticket: u32) {
+        assert_eq!(self.command(ticket, &frame(STREAM_DRAIN, 7, 8)), Ok(vec![]));
+    }
+}
+
+fn answered(outcome: Outcome, room: &[u8]) -> Answered {
+    let (written, rest) = room.split_at(outcome.written as usize);
+    assert!(rest.iter().all(|&byte| byte == 0xee));
+    if outcome.refusal != 0 {
+        assert_eq!(outcome.written, 0);
+        return Err(outcome.refusal);
+    }
+    let words: Vec<u32> = written
+        .chunks(4)
+        .map(|bytes| u32::from_le_bytes(bytes.try_into().expect("whole words")))
+        .collect();
+    let mut answers = Vec::new();
+    let mut rest = &words[..];
+    while let [ticket, count, more @ ..] = rest {
+        let (response, more) = more.split_at(*count as usize / 4);
+        answers.push((*ticket, response.to_vec()));
+        rest = more;
+    }
+    Ok(answers)
+}
+
+fn ok(ticket: u32, stream: u32) -> Answered {
+    Ok(vec![(ticket, vec![0x0200, stream])])
+}
+
+fn error(ticket: u32, code: u32, stream: u32) -> Answered {
+    Ok(vec![(ticket, vec![code, stream])])
+}
+
+/// The 112 bytes of parameters, the rest of them zero.
+fn parameters(ticket: u32, stream: u32, first: &[u32]) -> Answered {
+    let mut response = vec![0x0203, stream];
+    response.extend_from_slice(first);
+    response.resize(30, 0);
+    Ok(vec![(ticket, response)])
+}
+
+fn buffer(ticket: u32, stream: u32, timestamp: u64, flags: u32) -> (u32, Vec<u32>) {
+    (ticket, vec![0x0200, stream, timestamp as u32, (timestamp >> 32) as u32, flags, 0])
+}
+
+/// Makes a test of a case for the independent device and for the system under test.
+macro_rules! cases {
+    ($($(#[$text:meta])* fn $name:ident($host:ident: $start:ident) $body:block)*) => {$(
+        $(#[$text])*
+        #[test]
+        fn $name() {
+            fn case<C: Core + Default>() {
+                #[allow(unused_mut)]
+                let mut $host = Host::<C>::$start();
+                $body
+            }
+            case::<OnWords>();
+            case::<UnderTest>();
+        }
+    )*};
+}
+
+cases! {
+    /// The three lines of the log, but the empty one.
+    fn example_of_the_log(host: new) {
+        let frame = [3, 1, 0, 0, 7, 0, 0, 0];
+        assert_eq!(host.command(5, &frame), error(5, 0x0302, 7));
+        assert_eq!(host.drained(7), Err(5));
+    }
+
+    fn command_of_7_bytes_and_8(host: with_stream) {
+        assert_eq!(host.command(5, &[3, 1, 0, 0, 7, 0, 0]), Err(4));
+        assert_eq!(host.command(5, &[]), Err(4));
+        assert_eq!(host.command(5, &[3, 1, 0, 0, 7, 0, 0, 0]), Ok(vec![]));
+    }
+
+    fn type_then_length_then_live(host: with_stream) {
+        assert_eq!(host.command(2, &frame(0x0100, 7, 8)), error(2, 0x0300, 7));
+        assert_eq!(host.command(2, &frame(0x010d, 9, 9)), error(2, 0x0300, 9));
+        assert_eq!(host.command(2, &frame(0x0001_0102, 7, 8)), error(2, 0x0300, 7));
+        assert_eq!(host.command(2, &frame(STREAM_DRAIN, 9, 9)), error(2, 0x0304, 9));
+        assert_eq!(host.command(2, &frame(STREAM_DRAIN, 9, 8)), error(2, 0x0302, 9));
+        assert_eq!(host.command(2, &frame(RESOURCE_CREATE, 9, 87)), error(2, 0x0304, 9));
+        assert_eq!(host.command(2, &frame(RESOURCE_CREATE, 9, 89)), error(2, 0x0302, 9));
+        assert_eq!(host.command(2, &stream_create(7, 0, &[0xff; 64])), error(2, 0x0302, 7));
+    }
+
+    fn ninth_stream(host: with_stream) {
+        for number in 0..7 {
+            assert_eq!(host.command(9, &stream_create(number, MPEG2, b"")), ok(9, number));
+        }
+        assert_eq!(host.command(9, &stream_create(8, MPEG2, b"")), error(9, 0x0301, 8));
+        assert_eq!(host.command(9, &stream_create(8, 0x1006, b"")), error(9, 0x0304, 8));
+        assert_eq!(host.command(9, &stream_create(6, 0x1006, b"")), error(9, 0x0302, 6));
+        // A freed place is taken again: stream 2 stood behind 7, 0 and 1.
+        assert_eq!(host.command(9, &frame(STREAM_DESTROY, 2, 8)), ok(9, 2));
+        assert_eq!(host.command(9, &stream_create(8, MPEG2, b"")), ok(9, 8));
+        assert_eq!(host.table[3 * BLOCK + 1], 8);
+    }
+
+    fn seventeenth_input(host: with_stream) {
+        for number in 0..16 {
+            host.resource(INPUT, number);
+        }
+        let seventeenth = resource_create(7, INPUT, 16, &[1], &[(0, 1)]);
+        assert_eq!(host.command(3, &seventeenth), error(3, 0x0301, 7));
+        let present = resource_create(7, INPUT, 15, &[1], &[(0, 1)]);
+        assert_eq!(host.command(3, &present), error(3, 0x0303, 7));
+        host.resource(OUTPUT, 16);
+    }
+
+    fn size_count_8_and_9(host: with_stream) {
+        host.resource(INPUT, 5);
+        assert_eq!(host.command(3, &resource_queue(7, INPUT, 5, 0, 9)), error(3, 0x0304, 7));
+        assert_eq!(host.command(3, &resource_queue(7, INPUT, 5, 0, 8)), Ok(vec![]));
+    }
+
+    fn entry_sum_256_and_257(host: with_stream) {
+        let entries = [(0x1000, 0x1000); 257];
+        let create = |number, counts: &[u32], count| {
+            resource_create(7, OUTPUT, number, counts, &entries[..count])
+        };
+        assert_eq!(host.command(3, &create(1, &[200, 56], 256)), ok(3, 7));
+        assert_eq!(host.command(3, &create(2, &[200, 57], 257)), error(3, 0x0304, 7));
+        assert_eq!(host.command(3, &create(2, &[0, 0], 0)), error(3, 0x0304, 7));
+        assert_eq!(host.command(3, &create(2, &[0, 1], 1)), ok(3, 7));
+        assert_eq!(host.command(3, &create(3, &[0xffff_ffff, 2], 1)), error(3, 0x0304, 7));
+        assert_eq!(host.command(3, &create(3, &[1, 1], 1)), error(3, 0x0304, 7));
+        // A layout of one buffer adds all its planes too.
+        let mut single = create(3, &[1, 1], 2);
+        put(&mut single, 16, 1);
+        assert_eq!(host.command(3, &single), ok(3, 7));
+    }
+
+    fn entry_ending_at_2_to_64_and_one_past(host: with_stream) {
+        let create = |number, address, length| {
+            resource_create(7, INPUT, number, &[1], &[(address, length)])
+        };
+        assert_eq!(host.command(3, &create(1, u64::MAX - 0xfff, 0x1000)), ok(3, 7));
+        assert_eq!(host.command(3, &create(2, u64::MAX - 0xffe, 0x1000)), error(3, 0x0304, 7));
+        assert_eq!(host.command(3, &create(2, u64::MAX, 1)), ok(3, 7));
+        assert_eq!(host.command(3, &create(3, 0, 0)), error(3, 0x0304, 7));
+    }
+
+    fn defaults(host: with_stream) {
+        let input = [0x100, H264, 640, 480, 1, 16, 0, 0, 640, 480, 0, 1, 262_144, 0];
+        let output = [0x101, 3, 640, 480, 1, 16, 0, 0, 640, 480, 0, 2, 307_200, 640, 153_600, 640];
+        assert_eq!(host.command(3, &on_queue(GET_PARAMS, 7, INPUT)), parameters(3, 7, &input));
+        assert_eq!(host.command(3, &on_queue(GET_PARAMS, 7, OUTPUT)), parameters(3, 7, &output));
+        assert_eq!(host.command(3, &on_queue(GET_PARAMS, 7, 0x102)), error(3, 0x0304, 7));
+    }
+
+    fn set_4096_and_4098_wide(host: with_stream) {
+        let set = |format, width, height| set_params(7, OUTPUT, format, width, height, 25);
+        assert_eq!(host.command(3, &set(3, 4098, 16)), error(3, 0x0304, 7));
+        assert_eq!(host.command(3, &set(3, 4096, 15)), error(3, 0x0304, 7));
+        assert_eq!(host.command(3, &set(3, 4096, 14)), error(3, 0x0304, 7));
+        assert_eq!(host.command(3, &set(H264, 4096, 16)), error(3, 0x0304, 7));
+        assert_eq!(host.command(3, &set(3, 4096, 16)), ok(3, 7));
+        let output = [0x101, 3, 4096, 16, 1, 16, 0, 0, 4096, 16, 25, 2, 65_536, 4096, 32_768, 4096];
+        assert_eq!(host.command(3, &on_queue(GET_PARAMS, 7, OUTPUT)), parameters(3, 7, &output));
+        assert_eq!(host.command(3, &set_params(7, INPUT, MPEG2, 64, 64, 0)), error(3, 0x0304, 7));
+        host.resource(INPUT, 1);
+        host.queue(4, INPUT, 1, 0);
+        assert_eq!(host.command(3, &set_params(7, INPUT, H264, 64, 64, 0)), error(3, 0x0300, 7));
+        assert_eq!(host.command(3, &set(3, 64, 64)), ok(3, 7));
+    }
+
+    fn tag_of_63_letters_and_of_64(host: with_stream) {
+        assert_eq!(host.command(3, &stream_create(1, MPEG2, &[b'x'; 63])), ok(3, 1));
+        assert_eq!(host.command(3, &stream_create(2, MPEG2, &[b'x'; 64])), error(3, 0x0304, 2));
+        assert_eq!(host.command(3, &stream_create(2, MPEG2, b"")), ok(3, 2));
+        assert_eq!(host.command(3, &stream_create(3, MPEG2, b"\xc3")), error(3, 0x0304, 3));
+        assert_eq!(host.command(3, &stream_create(3, MPEG2, b"\xc3\xa9\0\xff")), ok(3, 3));
+        assert_eq!(host.command(3, &stream_create(4, MPEG2, b"\xed\xa0\x80")), error(3, 0x0304, 4));
+        let above = stream_create(4, MPEG2, b"\xf4\x90\x80\x80");
+        assert_eq!(host.command(3, &above), error(3, 0x0304, 4));
+        assert_eq!(host.command(3, &stream_create(4, MPEG2, b"\xf4\x8f\xbf\xbf")), ok(3, 4));
+    }
+
+    fn clear_of_an_empty_queue(host: with_stream) {
+        assert_eq!(host.command(3, &on_queue(QUEUE_CLEAR, 7, INPUT)), ok(3, 7));
+        host.drain(8);
+        assert_eq!(host.command(3, &on_queue(QUEUE_CLEAR, 7, OUTPUT)), ok(3, 7));
+        let both = Ok(vec![(8, vec![0x0200, 7]), (4, vec![0x0200, 7])]);
+        assert_eq!(host.command(4, &on_queue(QUEUE_CLEAR, 7, INPUT)), both);
+        assert_eq!(host.drained(7), Err(5));
+    }
+
+    fn one_resource_number_on_both_queues(host: with_stream) {
+        host.resource(INPUT, 5);
+        assert_eq!(host.finish(7, INPUT, 5, 0, 0), Err(5));
+        host.resource(OUTPUT, 5);
+        host.queue(0x11, INPUT, 5, 0x0123_4567_89ab_cdef);
+        assert_eq!(host.finish(7, OUTPUT, 5, 0, 0), Err(5));
+        host.queue(0x22, OUTPUT, 5, 2);
+        // An output's timestamp is the report's, an input's its own.
+        assert_eq!(host.finish(7, OUTPUT, 5, 1, 99), Ok(vec![buffer(0x22, 7, 99, 1)]));
+        assert_eq!(host.finish(7, OUTPUT, 5, 1, 99), Err(5));
+        let own = buffer(0x11, 7, 0x0123_4567_89ab_cdef, 0);
+        assert_eq!(host.finish(7, INPUT, 5, 0, 99), Ok(vec![own]));
+    }
+
+    fn queue_while_draining(host: with_stream) {
+        host.resource(INPUT, 1);
+        host.resource(INPUT, 2);
+        host.resource(OUTPUT, 1);
+        host.queue(10, INPUT, 1, 0);
+        host.drain(11);
+        assert_eq!(host.command(12, &frame(STREAM_DRAIN, 7, 8)), error(12, 0x0300, 7));
+        assert_eq!(host.command(13, &resource_queue(7, INPUT, 2, 0, 0)), error(13, 0x0300, 7));
+        assert_eq!(host.command(13, &resource_queue(7, INPUT, 3, 0, 0)), error(13, 0x0300, 7));
+        assert_eq!(host.command(13, &resource_queue(7, OUTPUT, 3, 0, 0)), error(13, 0x0303, 7));
+        host.queue(14, OUTPUT, 1, 0);
+        assert_eq!(host.drained(7), Err(5));
+        assert_eq!(host.finish(7, INPUT, 1, 0, 1), Ok(vec![buffer(10, 7, 0, 0)]));
+        assert_eq!(host.drained(7), ok(11, 7));
+        assert_eq!(host.drained(7), Err(5));
+    }
+
+    fn refused_queueing_keeps_the_first_ticket(host: with_stream) {
+        host.resource(OUTPUT, 1);
+        host.queue(0xaa, OUTPUT, 1, 6);
+        assert_eq!(host.command(0xbb, &resource_queue(7, OUTPUT, 1, 7, 0)), error(0xbb, 0x0300, 7));
+        let stopped = Ok(vec![buffer(0xaa, 7, 6, 1), (0xcc, vec![0x0200, 7])]);
+        assert_eq!(host.command(0xcc, &on_queue(QUEUE_CLEAR, 7, OUTPUT)), stopped);
+    }
+
+    fn flags_of_a_finish(host: with_stream) {
+        host.resource(INPUT, 1);
+        host.resource(OUTPUT, 1);
+        host.queue(1, INPUT, 1, 0);
+        host.queue(2, OUTPUT, 1, 0);
+        assert_eq!(host.finish(9, OUTPUT, 1, 4, 0), Err(6));
+        assert_eq!(host.finish(9, OUTPUT, 1, 3, 0), Err(5));
+        assert_eq!(host.finish(7, 0x102, 1, 0, 0), Err(5));
+        assert_eq!(host.finish(7, INPUT, 2, 2, 0), Err(5));
+        assert_eq!(host.finish(7, OUTPUT, 1, 2, 0), Err(6));
+        host.drain(3);
+        assert_eq!(host.finish(7, INPUT, 1, 2, 0), Err(6));
+        assert_eq!(host.finish(7, OUTPUT, 1, 3, 5), Ok(vec![buffer(2, 7, 5, 3)]));
+        assert_eq!(host.finish(7, INPUT, 1, 1, 5), Ok(vec![buffer(1, 7, 0, 1)]));
+        assert_eq!(host.drained(7), ok(3, 7));
+    }
+
+    /// Inputs, outputs, the drain and the command itself: 1,056 bytes.
+    fn destroy_with_all_queued(host: with_stream) {
+        let mut expected = Vec::new();
+        for (queue_type, ticket) in [(INPUT, 100), (OUTPUT, 200)] {
+            // From the highest number down, so that places and numbers go opposite ways.
+            for number in (0..16).rev() {
+                host.resource(queue_type, number << 28);
+                host.queue(ticket + number, queue_type, number << 28, 1000 + u64::from(number));
+            }
+            for number in 0..16 {
+                expected.push(buffer(ticket + number, 7, 1000 + u64::from(number), 1));
+            }
+        }
+        host.drain(300);
+        expected.push((300, vec![0x0200, 7]));
+        expected.push((301, vec![0x0200, 7]));
+        assert_eq!(host.command(301, &frame(STREAM_DESTROY, 7, 8)), Ok(expected));
+        assert!(host.table[..WORDS].iter().all(|&word| word == 0));
+    }
+
+    fn destroy_all_and_controls(host: with_stream) {
+        host.resource(INPUT, 1);
+        host.queue(1, INPUT, 1, 0);
+        assert_eq!(host.command(2, &on_queue(RESOURCE_DESTROY_ALL, 7, INPUT)), error(2, 0x0300, 7));
+        assert_eq!(host.command(2, &on_queue(RESOURCE_DESTROY_ALL, 7, OUTPUT)), ok(2, 7));
+        assert_eq!(host.finish(7, INPUT, 1, 0, 0), Ok(vec![buffer(1, 7, 0, 0)]));
+        assert_eq!(host.command(2, &on_queue(RESOURCE_DESTROY_ALL, 7, INPUT)), ok(2, 7));
+        assert_eq!(host.command(2, &resource_queue(7, INPUT, 1, 0, 0)), error(2, 0x0303, 7));
+        assert_eq!(host.command(2, &frame(QUERY_CONTROL, 7, 16)), error(2, 0x0305, 7));
+        assert_eq!(host.command(2, &frame(QUERY_CONTROL, 7, 24)), error(2, 0x0304, 7));
+        assert_eq!(host.command(2, &frame(SET_CONTROL, 7, 24)), error(2, 0x0305, 7));
+        assert_eq!(host.command(2, &frame(SET_CONTROL, 8, 24)), error(2, 0x0302, 8));
+    }
+
+    /// "Tested 1, 3, 2, then 4".
+    fn order_of_refusals(host: with_stream) {
+        let mut room = [0; ROOM];
+        let short = [0; 7];
+        let refusal =
+            |table: &mut [u32], room: &mut [u8]| host.core.command(table, 1, &short, room).refusal;
+        let table = &mut host.table;
+        assert_eq!(refusal(table, &mut room), 4);
+        table[5] = 1;
+        assert_eq!(refusal(table, &mut room), 2);
+        assert_eq!(refusal(table, &mut room[..ROOM - 1]), 3);
+        assert_eq!(refusal(&mut table[..WORDS - 1], &mut room[..ROOM - 1]), 1);
+        assert_eq!(host.core.fresh(&mut table[..WORDS - 1]), 1);
+        assert_eq!(table[5], 1);
+    }
+}

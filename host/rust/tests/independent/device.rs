@@ -1,0 +1,904 @@
+//! The whole device as records, written from document 01 (the scope) and the structs of the draft
+//! alone, in their order and words.
+//!
+//! It knows nothing of the table's words and shares nothing with the core. Each test of a step
+//! carries 01's reason, so that a run can count which of them were met; `slip` makes a wrong
+//! variant (see `slips`) and is `None` in the device itself.
+
+use super::slips::Slip;
+
+pub const PLACES: usize = 8;
+pub const SLOTS: usize = 16;
+/// "One step writes at most 1,056 bytes."
+pub const ROOM: usize = 1056;
+
+pub const QUERY_CAPABILITY: u32 = 0x0100;
+pub const STREAM_CREATE: u32 = 0x0101;
+pub const STREAM_DESTROY: u32 = 0x0102;
+pub const STREAM_DRAIN: u32 = 0x0103;
+pub const RESOURCE_CREATE: u32 = 0x0104;
+pub const RESOURCE_QUEUE: u32 = 0x0105;
+pub const RESOURCE_DESTROY_ALL: u32 = 0x0106;
+pub const QUEUE_CLEAR: u32 = 0x0107;
+pub const GET_PARAMS: u32 = 0x0108;
+pub const SET_PARAMS: u32 = 0x0109;
+pub const QUERY_CONTROL: u32 = 0x010A;
+pub const GET_CONTROL: u32 = 0x010B;
+pub const SET_CONTROL: u32 = 0x010C;
+
+/// Kinds of step that are not the type of a known command, to name their tests.
+pub const COMMAND: u32 = 0;
+pub const FINISH: u32 = 1;
+pub const DRAINED: u32 = 2;
+
+pub const OK_NODATA: u32 = 0x0200;
+pub const OK_RESOURCE_QUEUE: u32 = 0x0202;
+pub const OK_GET_PARAMS: u32 = 0x0203;
+pub const INVALID_OPERATION: u32 = 0x0300;
+pub const OUT_OF_MEMORY: u32 = 0x0301;
+pub const INVALID_STREAM: u32 = 0x0302;
+pub const INVALID_RESOURCE: u32 = 0x0303;
+pub const INVALID_PARAMETER: u32 = 0x0304;
+pub const UNSUPPORTED_CONTROL: u32 = 0x0305;
+
+pub const INPUT: u32 = 0x100;
+pub const OUTPUT: u32 = 0x101;
+pub const NV12: u32 = 3;
+pub const ERR: u32 = 1;
+pub const EOS: u32 = 2;
+
+/// A step: "a command (a 32-bit ticket and the guest's bytes), a finish report or a drained
+/// report".
+#[derive(Clone, Debug, PartialEq, Eq)]
+pub enum Act {
+    Command { ticket: u32, frame: Vec<u8> },
+    Finish(Report),
+    Drained { stream: u32 },
+}
+
+/// A finish report: "stream, queue type, resource, flags, 64-bit timestamp".
+#[derive(Clone, Copy, Debug, PartialEq, Eq)]
+pub struct Report {
+    pub stream: u32,
+    pub queue_type: u32,
+    pub resource: u32,
+    pub flags: u32,
+    pub timestamp: u64,
+}
+
+/// The records, by place: "a record is compared by what it holds", but a new one takes the lowest
+/// free place.
+#[derive(Clone, Debug, Default, PartialEq, Eq)]
+pub struct Device {
+    pub places: [Option<Stream>; PLACES],
+    pub slip: Option<Slip>,
+}
+
+/// "A live stream's record holds its number, coded format, a drain owed or not with its ticket, and
+/// for each queue ..."
+#[derive(Clone, Debug, PartialEq, Eq)]
+pub struct Stream {
+    pub number: u32,
+    pub coded_format: u32,
+    /// The ticket of the owed drain.
+    pub drain: Option<u32>,
+    pub input: Queue,
+    pub output: Queue,
+}
+
+/// "... its parameters, a clear-in-progress mark and its resources".
+#[derive(Clone, Debug, PartialEq, Eq)]
+pub struct Queue {
+    pub parameters: Parameters,
+    pub clear_in_progress: bool,
+    pub resources: [Option<Resource>; SLOTS],
+}
+
+/// "A resource holds its number, its state and, while Queued, its ticket and timestamp."
+#[derive(Clone, Copy, Debug, PartialEq, Eq)]
+pub struct Resource {
+    pub number: u32,
+    pub state: State,
+}
+
+#[derive(Clone, Copy, Debug, PartialEq, Eq)]
+pub enum State {
+    Created,
+    Queued { ticket: u32, timestamp: u64 },
+    Dequeued,
+}
+
+/// struct virtio_video_params, 112 bytes.
+#[derive(Clone, Debug, PartialEq, Eq)]
+pub struct Parameters {
+    pub queue_type: u32,
+    pub format: u32,
+    pub width: u32,
+    pub height: u32,
+    pub minimum: u32,
+    pub maximum: u32,
+    /// Left, top, width, height.
+    pub crop: [u32; 4],
+    pub rate: u32,
+    pub plane_count: u32,
+    /// Size and stride.
+    pub planes: [(u32, u32); 8],
+}
+
+#[derive(Clone, Copy, Debug, PartialEq, Eq)]
+pub enum QueueType {
+    Input,
+    Output,
+}
+
+/// The reason of a test, for the counts of a run.
+pub type Why = &'static str;
+
+/// The first test that was hit: the refusal or error code it gives.
+#[derive(Clone, Copy, Debug, PartialEq, Eq)]
+pub struct Hit {
+    pub number: u32,
+    pub why: Why,
+}
+
+/// What a step comes to: a refusal number or 0, the bytes written, and the reason of a refusal or
+/// error answer.
+#[derive(Clone, Debug, PartialEq, Eq)]
+pub struct Done {
+    pub refusal: u32,
+    pub written: Vec<u8>,
+    pub why: Option<Why>,
+}
+
+impl Device {
+    /// A step of any kind with an answer buffer of `room` bytes.
+    pub fn step(&mut self, act: &Act, room: usize) -> Done {
+        match act {
+            Act::Command { ticket, frame } => self.command(*ticket, frame, room),
+            Act::Finish(report) => self.finish(report, room),
+            Act::Drained { stream } => self.drained(*stream, room),
+        }
+    }
+
+    /// A command. Refusals 1 and 2 speak of a table and do not arise here.
+    pub fn command(&mut self, ticket: u32, frame: &[u8], room: usize) -> Done {
+        let tests = [
+            (room < ROOM, 3, "answer buffer under 1,056 bytes"),
+            (frame.len() < 8, 4, "command under 8 bytes"),
+        ];
+        if let Err(hit) = first_hit(self.slip, COMMAND, &tests) {
+            return refused(hit);
+        }
+        let number = word(frame, 4);
+        let mut answers = Answers(Vec::new());
+        let served = self.serve(ticket, number, frame, &mut answers);
+        if let Err(hit) = served {
+            // "An error answer is 8 bytes: code, stream number."
+            answers.put(ticket, &[hit.number, number]);
+        }
+        Done { refusal: 0, written: answers.0, why: served.err().map(|hit| hit.why) }
+    }
+
+    /// The command itself, "first hit answers: unknown type or 0x0100; wrong length; stream not
+    /// live (for 0x0101: live); then each command's own list".
+    fn serve(
+        &mut self,
+        ticket: u32,
+        number: u32,
+        frame: &[u8],
+        answers: &mut Answers,
+    ) -> Result<(), Hit> {
+        let slip = self.slip;
+        let slips = |other| slip == Some(other);
+        let mut kind = word(frame, 0);
+        if slips(Slip::TypeIn16Bits) {
+            kind &= 0xffff;
+        }
+        let length = frame.len();
+        let right_length = match kind {
+            STREAM_CREATE => length == 88,
+            STREAM_DESTROY | STREAM_DRAIN => length == 8,
+            RESOURCE_CREATE if slips(Slip::ExactLengthBeforeLive) => {
+                length >= 88 && length as u64 == 88 + 16 * entry_sum(frame, slip)
+            }
+            RESOURCE_CREATE => length >= 88,
+            RESOURCE_QUEUE => length == 64,
+            RESOURCE_DESTROY_ALL | QUEUE_CLEAR | GET_PARAMS => length == 16,
+            SET_PARAMS => length == 120,
+            QUERY_CONTROL if slips(Slip::LongControlQuery) => length >= 16,
+            QUERY_CONTROL | GET_CONTROL => length == 16,
+            SET_CONTROL => length >= 16,
+            _ => return Err(Hit { number: INVALID_OPERATION, why: "unknown type or 0x0100" }),
+        };
+        let place = self.place_of(number);
+        let create = kind == STREAM_CREATE;
+        let control = kind >= QUERY_CONTROL;
+        first_hit(
+            slip,
+            kind,
+            &[
+                (!right_length, INVALID_PARAMETER, "wrong length"),
+                (!create && place.is_none(), INVALID_STREAM, "stream not live"),
+                (control, UNSUPPORTED_CONTROL, "unsupported control"),
+            ],
+        )?;
+        if create {
+            self.stream_create(number, place.is_some(), frame)?;
+            answers.plain(ticket, number);
+            return Ok(());
+        }
+        let Some(place) = place else { return Ok(()) };
+        let Some(stream) = self.places[place].as_mut() else {
+            return Ok(());
+        };
+        match kind {
+            STREAM_DESTROY => {
+                stream.stop_all(slip, answers);
+                self.places[place] = None;
+                if slips(Slip::StreamsMoveDown) {
+                    self.places[place..].rotate_left(1);
+                }
+            }
+            STREAM_DRAIN => return stream.drain(slip, ticket),
+            RESOURCE_CREATE => stream.resource_create(slip, frame)?,
+            RESOURCE_QUEUE => return stream.resource_queue(slip, ticket, frame),
+            RESOURCE_DESTROY_ALL => stream.resource_destroy_all(slip, frame)?,
+            QUEUE_CLEAR => stream.queue_clear(slip, frame, answers)?,
+            GET_PARAMS => return stream.get_params(slip, ticket, frame, answers),
+            SET_PARAMS => stream.set_params(slip, frame)?,
+            _ => {}
+        }
+        // "Plain success is 0x0200 and the stream number."
+        answers.plain(ticket, number);
+        Ok(())
+    }
+
+    /// 0x0101.
+    fn stream_create(&mut self, number: u32, live: bool, frame: &[u8]) -> Result<(), Hit> {
+        let slips = |other| self.slip == Some(other);
+        let coded_format = word(frame, 16);
+        let tag = frame.get(24..88).unwrap_or(&[]);
+        let nul = tag.iter().position(|&byte| byte == 0);
+        let name = &tag[..nul.unwrap_or(tag.len())];
+        let mut utf8 = is_utf8(name);
+        match self.slip {
+            Some(Slip::TagBehindNul) => utf8 = is_utf8(tag),
+            Some(Slip::TagSurrogates) => utf8 = is_utf8(&without_surrogates(name)),
+            Some(Slip::TagCutCharacter) => utf8 = utf8_but_cut(name),
+            Some(Slip::EmptyTagRefused) => utf8 &= !name.is_empty(),
+            _ => {}
+        }
+        let mut free = self.places.iter().position(Option::is_none);
+        if slips(Slip::HighestPlace) {
+            free = self.places.iter().rposition(Option::is_none);
+        }
+        first_hit(
+            self.slip,
+            STREAM_CREATE,
+            &[
+                (live, INVALID_STREAM, "stream live"),
+                (word(frame, 8) != 0, INVALID_PARAMETER, "input memory type not 0"),
+                (word(frame, 12) != 0, INVALID_PARAMETER, "output memory type not 0"),
+                (
+                    !(0x1000..=0x1005).contains(&coded_format),
+                    INVALID_PARAMETER,
+                    "format outside 0x1000 to 0x1005",
+                ),
+                (nul.is_none(), INVALID_PARAMETER, "tag without a NUL"),
+                (!utf8, INVALID_PARAMETER, "bytes before the first NUL that aren't UTF-8"),
+                (free.is_none(), OUT_OF_MEMORY, "no place"),
+            ],
+        )?;
+        if let Some(place) = free {
+            self.places[place] = Some(Stream::new(number, coded_format));
+        }
+        Ok(())
+    }
+
+    /// A finish report: "flags above 3 (6), then 5, then the EOS rule (6)".
+    pub fn finish(&mut self, report: &Report, room: usize) -> Done {
+        let slip = self.slip;
+        let slips = |other| slip == Some(other);
+        let queue_type = QueueType::of(report.queue_type);
+        let input = queue_type == Some(QueueType::Input);
+        let mut stream = self.live(report.stream);
+        let draining = stream.as_ref().is_some_and(|stream| stream.drain.is_some());
+        let looked_in = match queue_type {
+            Some(QueueType::Input) if slips(Slip::InputReadAsOutput) => Some(QueueType::Output),
+            other => other,
+        };
+        let queued = stream
+            .as_mut()
+            .zip(looked_in)
+            .and_then(|(stream, queue_type)| stream.queue(queue_type).find(report.resource))
+            .filter(|resource| resource.is_queued());
+        let eos = report.flags & EOS != 0;
+        let tests = [
+            (room < ROOM, 3, "answer buffer under 1,056 bytes"),
+            (report.flags > ERR + EOS, 6, "flags outside ERR and EOS"),
+            (queued.is_none(), 5, "no buffer now Queued"),
+            (eos && input, 6, "EOS on an input"),
+            (eos && !draining, 6, "EOS with no drain owed"),
+        ];
+        if let Err(hit) = first_hit(slip, FINISH, &tests) {
+            return refused(hit);
+        }
+        let mut answers = Answers(Vec::new());
+        if let Some(resource) = queued {
+            if let State::Queued { ticket, timestamp: own } = resource.state {
+                // "An input's timestamp is its own, an output's the report's."
+                let timestamp = match slip {
+                    Some(Slip::InputTimestampOfReport) => report.timestamp,
+                    Some(Slip::OutputTimestampOwn) => own,
+                    _ if input => own,
+                    _ => report.timestamp,
+                };
+                answers.buffer(slip, ticket, report.stream, timestamp, report.flags);
+                resource.state =
+                    if slips(Slip::FinishedIsCreated) { State::Created } else { State::Dequeued };
+            }
+        }
+        if let Some(stream) = stream {
+            let last_input = slips(Slip::LastInputEndsDrain) && input && !stream.input.any_queued();
+            if last_input || slips(Slip::EosEndsDrain) && eos {
+                stream.stop_drain(&mut answers);
+            }
+        }
+        Done { refusal: 0, written: answers.0, why: None }
+    }
+
+    /// A drained report: refused with 5 for "no such stream, no drain owed, or an input still
+    /// Queued".
+    pub fn drained(&mut self, number: u32, room: usize) -> Done {
+        let slip = self.slip;
+        let stream = self.live(number);
+        let draining = stream.as_ref().is_some_and(|stream| stream.drain.is_some());
+        let input_queued = stream.as_ref().is_some_and(|stream| {
+            stream.input.any_queued()
+                || slip == Some(Slip::DrainedWaitsForOutputs) && stream.output.any_queued()
+        });
+        let tests = [
+            (room < ROOM, 3, "answer buffer under 1,056 bytes"),
+            (stream.is_none(), 5, "no such stream"),
+            (!draining, 5, "no drain owed"),
+            (input_queued, 5, "an input still Queued"),
+        ];
+        if let Err(hit) = first_hit(slip, DRAINED, &tests) {
+            return refused(hit);
+        }
+        let mut answers = Answers(Vec::new());
+        if let Some(stream) = stream {
+            let owed = stream.drain;
+            stream.stop_drain(&mut answers);
+            if slip == Some(Slip::DrainedKeepsDrain) {
+                stream.drain = owed;
+            }
+        }
+        Done { refusal: 0, written: answers.0, why: None }
+    }
+
+    fn place_of(&self, number: u32) -> Option<usize> {
+        self.places
+            .iter()
+            .position(|place| place.as_ref().is_some_and(|stream| stream.number == number))
+    }
+
+    fn live(&mut self, number: u32) -> Option<&mut Stream> {
+        self.places.iter_mut().flatten().find(|stream| stream.number == number)
+    }
+}
+
+impl Stream {
+    /// "Defaults: 640 by 480, rate 0."
+    pub fn new(number: u32, coded_format: u32) -> Stream {
+        let queue = |queue_type| Queue {
+            parameters: Parameters::left_by_set(queue_type, coded_format, 640, 480, 0),
+            clear_in_progress: false,
+            resources: [None; SLOTS],
+        };
+        Stream {
+            number,
+            coded_format,
+            drain: None,
+            input: queue(QueueType::Input),
+            output: queue(QueueType::Output),
+        }
+    }
+
+    pub fn queue(&mut self, queue_type: QueueType) -> &mut Queue {
+        match queue_type {
+            QueueType::Input => &mut self.input,
+            QueueType::Output => &mut self.output,
+        }
+    }
+
+    /// The queue that a queue type in a frame names, if it is one.
+    fn named(&mut self, queue_type: u32) -> Option<&mut Queue> {
+        QueueType::of(queue_type).map(|queue_type| self.queue(queue_type))
+    }
+
+    /// 0x0102: "answers every Queued input, then output, then an owed drain".
+    fn stop_all(&mut self, slip: Option<Slip>, answers: &mut Answers) {
+        if slip == Some(Slip::DrainBeforeBuffers) {
+            self.stop_drain(answers);
+        }
+        if slip == Some(Slip::OutputsBeforeInputs) {
+            self.output.stop(slip, self.number, answers);
+        }
+        self.input.stop(slip, self.number, answers);
+        self.output.stop(slip, self.number, answers);
+        self.stop_drain(answers);
+    }
+
+    /// "A drain's answer is the plain 8 bytes even when stopped."
+    fn stop_drain(&mut self, answers: &mut Answers) {
+        if let Some(ticket) = self.drain.take() {
+            answers.plain(ticket, self.number);
+        }
+    }
+
+    /// 0x0103: "already draining (0x0300); else owed, answered by a drained report".
+    fn drain(&mut self, slip: Option<Slip>, ticket: u32) -> Result<(), Hit> {
+        let mark = self.input.clear_in_progress || self.output.clear_in_progress;
+        let draining = self.drain.is_some() || slip == Some(Slip::MarkStopsDrain) && mark;
+        if slip == Some(Slip::RefusedDrainKeepsTicket) && self.drain.is_some() {
+            self.drain = Some(ticket);
+        }
+        first_hit(slip, STREAM_DRAIN, &[(draining, INVALID_OPERATION, "already draining")])?;
+        self.drain = Some(ticket);
+        Ok(())
+    }
+
+    /// 0x0104.
+    fn resource_create(&mut self, slip: Option<Slip>, frame: &[u8]) -> Result<(), Hit> {
+        let queue = self.named(word(frame, 8));
+        let number = word(frame, 12);
+        let layout = word(frame, 16);
+        let plane_count = word(frame, 20);
+        let sum = entry_sum(frame, slip);
+        let entries = || frame.get(88..).unwrap_or(&[]).chunks_exact(16);
+        let empty = entries().any(|entry| word(entry, 8) == 0);
+        let top = (1 << 64) - u128::from(slip == Some(Slip::EntryEndAtTop));
+        let above =
+            entries().any(|entry| u128::from(long(entry, 0)) + u128::from(word(entry, 8)) > top);
+        let present = queue.as_ref().is_some_and(|queue| queue.has(number));
+        let free = queue.as_ref().and_then(|queue| queue.free(slip));
+        first_hit(
+            slip,
+            RESOURCE_CREATE,
+            &[
+                (queue.is_none(), INVALID_PARAMETER, "bad queue type"),
+                (layout != 1 && layout != 2, INVALID_PARAMETER, "layout not 1 or 2"),
+                (!(1..=8).contains(&plane_count), INVALID_PARAMETER, "plane count not 1 to 8"),
+                (!(1..=256).contains(&sum), INVALID_PARAMETER, "true sum not 1 to 256"),
+                (
+                    frame.len() as u64 != 88 + 16 * sum,
+                    INVALID_PARAMETER,
+                    "length not 88 + 16 x sum",
+                ),
+                (empty, INVALID_PARAMETER, "an entry of length 0"),
+                (above, INVALID_PARAMETER, "an entry with address + length above 2^64"),
+                (present, INVALID_RESOURCE, "number present"),
+                (free.is_none(), OUT_OF_MEMORY, "no place"),
+            ],
+        )?;
+        if let (Some(queue), Some(slot)) = (queue, free) {
+            queue.resources[slot] = Some(Resource { number, state: State::Created });
+        }
+        Ok(())
+    }
+
+    /// 0x0105: "Accepted: no answer now; the ticket and timestamp are kept."
+    fn resource_queue(&mut self, slip: Option<Slip>, ticket: u32, frame: &[u8]) -> Result<(), Hit> {
+        let slips = |other| slip == Some(other);
+        let draining = self.drain.is_some();
+        let input = word(frame, 8) == INPUT;
+        let either = slips(Slip::MarkOfEitherQueue)
+            && (self.input.clear_in_progress || self.output.clear_in_progress);
+        let queue = self.named(word(frame, 8));
+        let mut timestamp = long(frame, 16);
+        if slips(Slip::TimestampIn32Bits) {
+            timestamp &= 0xffff_ffff;
+        }
+        let sizes = word(frame, 24);
+        let padding = slips(Slip::PaddingLookedAt) && word(frame, 60) != 0;
+        let bad_type = queue.is_none();
+        let clearing = either || queue.as_ref().is_some_and(|queue| queue.clear_in_progress);
+        let resource = queue.and_then(|queue| queue.find(word(frame, 12)));
+        let queued = resource.as_ref().is_some_and(|resource| resource.is_queued());
+        let refused = first_hit(
+            slip,
+            RESOURCE_QUEUE,
+            &[
+                (bad_type, INVALID_PARAMETER, "bad queue type"),
+                (sizes > 8 || padding, INVALID_PARAMETER, "size count above 8"),
+                (
+                    draining && (input || slips(Slip::OutputRefusedWhileDraining)),
+                    INVALID_OPERATION,
+                    "an input while draining",
+                ),
+                (clearing, INVALID_OPERATION, "that queue's clear in progress"),
+                (resource.is_none(), INVALID_RESOURCE, "number absent"),
+                (queued, INVALID_OPERATION, "already Queued"),
+            ],
+        );
+        if let Some(resource) = resource {
+            if refused.is_ok() {
+                resource.state = State::Queued { ticket, timestamp };
+            }
+            if let (State::Queued { timestamp, .. }, true) =
+                (resource.state, slips(Slip::RefusedQueueKeepsTicket))
+            {
+                resource.state = State::Queued { ticket, timestamp };
+            }
+        }
+        refused
+    }
+
+    /// 0x0106: "any of that queue Queued (0x0300); else frees them".
+    fn resource_destroy_all(&mut self, slip: Option<Slip>, frame: &[u8]) -> Result<(), Hit> {
+        let queue = self.named(word(frame, 8));
+        let queued = queue.as_ref().is_some_and(|queue| queue.any_queued());
+        first_hit(
+            slip,
+            RESOURCE_DESTROY_ALL,
+            &[
+                (queue.is_none(), INVALID_PARAMETER, "bad queue type"),
+                (queued, INVALID_OPERATION, "any of that queue Queued"),
+            ],
+        )?;
+        if let Some(queue) = queue {
+            queue.resources = [None; SLOTS];
+        }
+        if slip == Some(Slip::DestroyAllEndsDrain) {
+            self.drain = None;
+        }
+        Ok(())
+    }
+
+    /// 0x0107: "answers that queue's Queued buffers, then, for input only, an owed drain, then
+    /// itself. The clear-in-progress mark is set and dropped within the step."
+    fn queue_clear(
+        &mut self,
+        slip: Option<Slip>,
+        frame: &[u8],
+        answers: &mut Answers,
+    ) -> Result<(), Hit> {
+        let slips = |other| slip == Some(other);
+        let queue_type = QueueType::of(word(frame, 8));
+        first_hit(
+            slip,
+            QUEUE_CLEAR,
+            &[(queue_type.is_none(), INVALID_PARAMETER, "bad queue type")],
+        )?;
+        let Some(queue_type) = queue_type else {
+            return Ok(());
+        };
+        let input = queue_type == QueueType::Input;
+        if slips(Slip::DrainBeforeBuffers) && input {
+            self.stop_drain(answers);
+        }
+        let number = self.number;
+        let queue = self.queue(queue_type);
+        let mark = queue.clear_in_progress;
+        queue.clear_in_progress = true;
+        queue.stop(slip, number, answers);
+        queue.clear_in_progress = slips(Slip::ClearKeepsMark) && mark;
+        let kept = slips(Slip::InputClearNeedsBuffers) && answers.0.is_empty();
+        if (input || slips(Slip::OutputClearEndsDrain)) && !kept {
+            self.stop_drain(answers);
+        }
+        Ok(())
+    }
+
+    /// 0x0108: "answers type 0x0203, the stream number and the 112 bytes of parameters".
+    fn get_params(
+        &mut self,
+        slip: Option<Slip>,
+        ticket: u32,
+        frame: &[u8],
+        answers: &mut Answers,
+    ) -> Result<(), Hit> {
+        let number = self.number;
+        let queue = self.named(word(frame, 8));
+        first_hit(slip, GET_PARAMS, &[(queue.is_none(), INVALID_PARAMETER, "bad queue type")])?;
+        if let Some(queue) = queue {
+            let mut response = vec![OK_GET_PARAMS, number];
+            response.extend(queue.parameters.words());
+            match slip {
+                Some(Slip::HalfSecondStride) => response[17] /= 2,
+                Some(Slip::DefaultPlaneSizes) if response[13] == 2 => response[14] = 307_200,
+                _ => {}
+            }
+            answers.put(ticket, &response);
+        }
+        Ok(())
+    }
+
+    /// 0x0109: "Set stores format, width, height and rate as sent."
+    fn set_params(&mut self, slip: Option<Slip>, frame: &[u8]) -> Result<(), Hit> {
+        let queue_type = QueueType::of(word(frame, 8));
+        let (format, width, height) = (word(frame, 12), word(frame, 16), word(frame, 20));
+        let rate = word(frame, 48);
+        let coded_format = self.coded_format;
+        let queued = queue_type.is_some_and(|queue_type| self.queue(queue_type).any_queued());
+        let bad_extent = |extent: u32| !extent.is_multiple_of(2) || !(16..=4096).contains(&extent);
+        first_hit(
+            slip,
+            SET_PARAMS,
+            &[
+                (queue_type.is_none(), INVALID_PARAMETER, "bad queue type"),
+                (
+                    queue_type == Some(QueueType::Input) && format != coded_format,
+                    INVALID_PARAMETER,
+                    "input format not the stream's",
+                ),
+                (
+                    queue_type == Some(QueueType::Output) && format != NV12,
+                    INVALID_PARAMETER,
+                    "output format not 3",
+                ),
+                (bad_extent(width), INVALID_PARAMETER, "width odd or outside 16 to 4,096"),
+                (bad_extent(height), INVALID_PARAMETER, "height odd or outside 16 to 4,096"),
+                (queued, INVALID_OPERATION, "any of that queue Queued"),
+            ],
+        )?;
+        if let Some(queue_type) = queue_type {
+            let left =
+                |queue_type| Parameters::left_by_set(queue_type, coded_format, width, height, rate);
+            self.queue(queue_type).parameters = left(queue_type);
+            if slip == Some(Slip::SetBothQueues) {
+                self.input.parameters = left(QueueType::Input);
+                self.output.parameters = left(QueueType::Output);
+            }
+        }
+        Ok(())
+    }
+}
+
+impl Queue {
+    pub fn find(&mut self, number: u32) -> Option<&mut Resource> {
+        self.resources.iter_mut().flatten().find(|resource| resource.number == number)
+    }
+
+    pub fn has(&self, number: u32) -> bool {
+        self.resources.iter().flatten().any(|resource| resource.number == number)
+    }
+
+    pub fn any_queued(&self) -> bool {
+        self.resources.iter().flatten().any(Resource::is_queued)
+    }
+
+    /// "A new stream or resource takes the lowest free place."
+    fn free(&self, slip: Option<Slip>) -> Option<usize> {
+        if slip == Some(Slip::HighestSlot) {
+            return self.resources.iter().rposition(Option::is_none);
+        }
+        self.resources.iter().position(Option::is_none)
+    }
+
+    /// "Stopped by clear or destroy: own timestamp, flags 1", "by ascending resource number". The
+    /// buffers are then Dequeued.
+    fn stop(&mut self, slip: Option<Slip>, stream: u32, answers: &mut Answers) {
+        let output = self.parameters.queue_type == OUTPUT;
+        let mut queued: Vec<&mut Resource> =
+            self.resources.iter_mut().flatten().filter(|resource| resource.is_queued()).collect();
+        match slip {
+            Some(Slip::AnswersInSlotOrder) => {}
+            Some(Slip::AnswersInSignedOrder) => {
+                queued.sort_by_key(|resource| resource.number as i32)
+            }
+            _ => queued.sort_by_key(|resource| resource.number),
+        }
+        for resource in queued {
+            if let State::Queued { ticket, timestamp } = resource.state {
+                let flags = if slip == Some(Slip::StoppedWithoutErr) { 0 } else { ERR };
+                let zero = slip == Some(Slip::StoppedOutputsOfTimeZero) && output;
+                answers.buffer(slip, ticket, stream, if zero { 0 } else { timestamp }, flags);
+                resource.state = State::Dequeued;
+                if slip == Some(Slip::StoppedIsCreated) {
+                    resource.state = State::Created;
+                }
+            }
+        }
+    }
+}
+
+impl Resource {
+    pub fn is_queued(&self) -> bool {
+        matches!(self.state, State::Queued { .. })
+    }
+}
+
+impl QueueType {
+    /// "Queue types are 0x100 input and 0x101 output."
+    pub fn of(number: u32) -> Option<QueueType> {
+        match number {
+            INPUT => Some(QueueType::Input),
+            OUTPUT => Some(QueueType::Output),
+            _ => None,
+        }
+    }
+}
+
+impl Parameters {
+    /// What a set (or a creation) leaves: "minimum 1, maximum 16, crop 0, 0, width, height. Input:
+    /// one plane, 262,144 and 0. Output: two planes, width x height then half that, both strides
+    /// the width. The rest 0."
+    pub fn left_by_set(
+        queue_type: QueueType,
+        coded_format: u32,
+        width: u32,
+        height: u32,
+        rate: u32,
+    ) -> Parameters {
+        let mut planes = [(0, 0); 8];
+        let (number, format, plane_count) = match queue_type {
+            QueueType::Input => {
+                planes[0] = (262_144, 0);
+                (INPUT, coded_format, 1)
+            }
+            QueueType::Output => {
+                let size = width.wrapping_mul(height);
+                planes[0] = (size, width);
+                planes[1] = (size / 2, width);
+                (OUTPUT, NV12, 2)
+            }
+        };
+        Parameters {
+            queue_type: number,
+            format,
+            width,
+            height,
+            minimum: 1,
+            maximum: 16,
+            crop: [0, 0, width, height],
+            rate,
+            plane_count,
+            planes,
+        }
+    }
+
+    /// In the order of the draft's struct.
+    pub fn words(&self) -> [u32; 28] {
+        let mut words = [0; 28];
+        words[0] = self.queue_type;
+        words[1] = self.format;
+        words[2] = self.width;
+        words[3] = self.height;
+        words[4] = self.minimum;
+        words[5] = self.maximum;
+        words[6..10].copy_from_slice(&self.crop);
+        words[10] = self.rate;
+        words[11] = self.plane_count;
+        for (pair, (size, stride)) in words[12..].chunks_exact_mut(2).zip(self.planes) {
+            pair[0] = size;
+            pair[1] = stride;
+        }
+        words
+    }
+}
+
+/// Answers, "each as ticket, byte count (both 4 bytes) and response. All numbers are
+/// little-endian."
+struct Answers(Vec<u8>);
+
+impl Answers {
+    fn put(&mut self, ticket: u32, response: &[u32]) {
+        let count = 4 * response.len() as u32;
+        self.0.reserve(8 + count as usize);
+        for word in [ticket, count].iter().chain(response) {
+            self.0.extend_from_slice(&word.to_le_bytes());
+        }
+    }
+
+    fn plain(&mut self, ticket: u32, stream: u32) {
+        self.put(ticket, &[OK_NODATA, stream]);
+    }
+
+    /// "A buffer's answer is 24 bytes: 0x0200, stream, timestamp, flags, size 0."
+    fn buffer(&mut self, slip: Option<Slip>, ticket: u32, stream: u32, timestamp: u64, flags: u32) {
+        let own_type = slip == Some(Slip::BufferAnswerOfOwnType);
+        let code = if own_type { OK_RESOURCE_QUEUE } else { OK_NODATA };
+        self.put(ticket, &[code, stream, timestamp as u32, (timestamp >> 32) as u32, flags, 0]);
+    }
+}
+
+/// "True sum of the first plane-count entry counts."
+fn entry_sum(frame: &[u8], slip: Option<Slip>) -> u64 {
+    let planes = match slip {
+        Some(Slip::CountsBehindPlanes) => 8,
+        Some(Slip::SingleBufferFirstCount) if word(frame, 16) == 1 => 1,
+        _ => word(frame, 20).min(8) as usize,
+    };
+    let sum = (0..planes).map(|plane| u64::from(word(frame, 56 + 4 * plane))).sum();
+    if slip == Some(Slip::EntryCountsIn32Bits) {
+        return sum & 0xffff_ffff;
+    }
+    sum
+}
+
+/// UTF-8 by RFC 3629, which is also what the standard library asks of a string.
+fn is_utf8(bytes: &[u8]) -> bool {
+    std::str::from_utf8(bytes).is_ok()
+}
+
+fn without_surrogates(bytes: &[u8]) -> Vec<u8> {
+    let mut rest = Vec::new();
+    let mut at = 0;
+    while at < bytes.len() {
+        match bytes[at..] {
+            [0xed, 0xa0..=0xbf, 0x80..=0xbf, ..] => at += 3,
+            _ => {
+                rest.push(bytes[at]);
+                at += 1;
+            }
+        }
+    }
+    rest
+}
+
+fn utf8_but_cut(bytes: &[u8]) -> bool {
+    std::str::from_utf8(bytes).map_or_else(|error| error.error_len().is_none(), |_| true)
+}
+
+/// A little-endian number of 4 bytes. Past the end it is 0, which only a slip gets to see.
+fn word(bytes: &[u8], at: usize) -> u32 {
+    match bytes.get(at..at + 4) {
+        Some(&[a, b, c, d]) => u32::from_le_bytes([a, b, c, d]),
+        _ => 0,
+    }
+}
+
+/// A little-endian number of 8 bytes.
+fn long(bytes: &[u8], at: usize) -> u64 {
+    u64::from(word(bytes, at)) | u64::from(word(bytes, at + 4)) << 32
+}
+
+fn refused(hit: Hit) -> Done {
+    Done { refusal: hit.number, written: Vec::new(), why: Some(hit.why) }
+}
+
+/// The tests of a list in order: "first hit answers".
+fn first_hit(slip: Option<Slip>, kind: u32, tests: &[(bool, u32, Why)]) -> Result<(), Hit> {
+    if slip.is_some() {
+        return first_hit_with_slip(slip, kind, tests);
+    }
+    match tests.iter().find(|(hit, ..)| *hit) {
+        Some(&(_, number, why)) => Err(Hit { number, why }),
+        None => Ok(()),
+    }
+}
+
+fn first_hit_with_slip(
+    slip: Option<Slip>,
+    kind: u32,
+    tests: &[(bool, u32, Why)],
+) -> Result<(), Hit> {
+    let mut tests = tests.to_vec();
+    let at = |of: u32, why: Why| tests.iter().position(|test| of == kind && test.2 == why);
+    match slip {
+        Some(Slip::Skipped(of, why)) => {
+            if let Some(at) = at(of, why) {
+                tests.remove(at);
+            }
+        }
+        Some(Slip::First(of, why)) => {
+            if let Some(at) = at(of, why) {
+                tests[..=at].rotate_right(1);
+            }
+        }
+        Some(Slip::Last(of, why)) => {
+            if let Some(at) = at(of, why) {
+                tests[at..].rotate_left(1);
+            }
+        }
+        Some(Slip::Gives(of, why, number)) => {
+            if let Some(at) = at(of, why) {
+                tests[at].1 = number;
+            }
+        }
+        _ => {}
+    }
+    first_hit(None, kind, &tests)
+}

@@ -1,0 +1,255 @@
+//! Records to the table's 4,096 words and back, by docs/LAYOUT.md ("What valid asks"), and not by
+//! the core's own test.
+
+use super::device::{Device, Parameters, Queue, QueueType, Resource, State, Stream, PLACES, SLOTS};
+use super::slips::Slip;
+
+pub const WORDS: usize = 4096;
+pub const BLOCK: usize = 512;
+/// Where a queue starts in a block.
+pub const INPUT_AT: usize = 8;
+pub const OUTPUT_AT: usize = 92;
+/// A queue's words before its slots, and a slot's words.
+pub const SLOTS_AT: usize = 4;
+pub const SLOT: usize = 5;
+const QUEUE: usize = SLOTS_AT + SLOTS * SLOT;
+/// From here on a block's words have no use.
+pub const TAIL_AT: usize = OUTPUT_AT + QUEUE;
+
+/// The rule that a table breaks, the first one found.
+#[derive(Clone, Copy, Debug, PartialEq, Eq, PartialOrd, Ord)]
+pub enum Broken {
+    /// Word 0 of a block is neither 0 nor 1.
+    Live,
+    /// A vacant place is not all zero.
+    Vacant,
+    /// Drain owed is neither 0 nor 1.
+    Drain,
+    /// A drain's ticket stands while none is owed.
+    DrainTicket,
+    /// A clear mark is neither 0 nor 1.
+    Mark,
+    /// A slot's state is above 3.
+    SlotState,
+    /// A free slot is not all zero.
+    FreeSlot,
+    /// A ticket or timestamp stands in a slot that is not Queued.
+    NotQueued,
+    /// One of words 5 to 7 of a live block is not zero.
+    Head,
+    /// One of words 176 to 511 of a live block is not zero.
+    Tail,
+    /// The coded format is outside 0x1000 to 0x1005.
+    Format,
+    /// A width or height is odd or outside 16 to 4,096.
+    Extent,
+    /// A resource number stands twice in a queue.
+    ResourceTwice,
+    /// A stream number stands in two live places.
+    StreamTwice,
+}
+
+impl Broken {
+    pub const ALL: [Broken; 14] = [
+        Broken::Live,
+        Broken::Vacant,
+        Broken::Drain,
+        Broken::DrainTicket,
+        Broken::Mark,
+        Broken::SlotState,
+        Broken::FreeSlot,
+        Broken::NotQueued,
+        Broken::Head,
+        Broken::Tail,
+        Broken::Format,
+        Broken::Extent,
+        Broken::ResourceTwice,
+        Broken::StreamTwice,
+    ];
+}
+
+/// The records that the words stand for, or the rule that they break.
+pub fn read(words: &[u32], slip: Option<Slip>) -> Result<Device, Broken> {
+    let mut device = Device { slip, ..Device::default() };
+    for (place, block) in device.places.iter_mut().zip(words.chunks_exact(BLOCK)) {
+        *place = read_place(block, slip)?;
+    }
+    let numbers = device.places.iter().flatten().map(|stream| stream.number);
+    ask(!twice(numbers), Broken::StreamTwice, slip)?;
+    if slip == Some(Slip::HolesRefused) {
+        let holes = device
+            .places
+            .iter()
+            .flatten()
+            .any(|stream| has_hole(&stream.input) || has_hole(&stream.output));
+        ask(!holes, Broken::FreeSlot, None)?;
+    }
+    Ok(device)
+}
+
+fn read_place(block: &[u32], slip: Option<Slip>) -> Result<Option<Stream>, Broken> {
+    ask(block[0] <= 1, Broken::Live, slip)?;
+    if block[0] == 0 {
+        ask(all_zero(block), Broken::Vacant, slip)?;
+        return Ok(None);
+    }
+    let coded_format = block[2];
+    let owed = block[3] != 0;
+    ask(block[3] <= 1, Broken::Drain, slip)?;
+    ask(owed || block[4] == 0, Broken::DrainTicket, slip)?;
+    ask(all_zero(&block[5..INPUT_AT]), Broken::Head, slip)?;
+    ask(all_zero(&block[TAIL_AT..]), Broken::Tail, slip)?;
+    ask((0x1000..=0x1005).contains(&coded_format), Broken::Format, slip)?;
+    Ok(Some(Stream {
+        number: block[1],
+        coded_format,
+        drain: owed.then_some(block[4]),
+        input: read_queue(&block[INPUT_AT..OUTPUT_AT], QueueType::Input, coded_format, slip)?,
+        output: read_queue(&block[OUTPUT_AT..TAIL_AT], QueueType::Output, coded_format, slip)?,
+    }))
+}
+
+fn read_queue(
+    words: &[u32],
+    queue_type: QueueType,
+    coded_format: u32,
+    slip: Option<Slip>,
+) -> Result<Queue, Broken> {
+    let (mark, width, height, rate) = (words[0], words[1], words[2], words[3]);
+    ask(mark <= 1, Broken::Mark, slip)?;
+    ask(mark == 0 || slip != Some(Slip::MarksRefused), Broken::Mark, None)?;
+    for extent in [width, height] {
+        ask(extent % 2 == 0 && (16..=4096).contains(&extent), Broken::Extent, slip)?;
+    }
+    let mut resources = [None; SLOTS];
+    for (resource, slot) in resources.iter_mut().zip(words[SLOTS_AT..].chunks_exact(SLOT)) {
+        *resource = read_slot(slot, slip)?;
+    }
+    let numbers = resources.iter().flatten().map(|resource: &Resource| resource.number);
+    ask(!twice(numbers), Broken::ResourceTwice, slip)?;
+    Ok(Queue {
+        parameters: Parameters::left_by_set(queue_type, coded_format, width, height, rate),
+        clear_in_progress: mark != 0,
+        resources,
+    })
+}
+
+fn read_slot(slot: &[u32], slip: Option<Slip>) -> Result<Option<Resource>, Broken> {
+    let number = slot[1];
+    let state = match slot[0] {
+        0 => {
+            ask(all_zero(slot), Broken::FreeSlot, slip)?;
+            return Ok(None);
+        }
+        1 => State::Created,
+        2 => State::Queued {
+            ticket: slot[2],
+            timestamp: u64::from(slot[4]) << 32 | u64::from(slot[3]),
+        },
+        3 => State::Dequeued,
+        _ => {
+            ask(false, Broken::SlotState, slip)?;
+            State::Dequeued
+        }
+    };
+    let queued = matches!(state, State::Queued { .. });
+    ask(queued || all_zero(&slot[2..]), Broken::NotQueued, slip)?;
+    Ok(Some(Resource { number, state }))
+}
+
+/// The words of the records. `words` are the table's first 4,096.
+pub fn write(device: &Device, words: &mut [u32]) {
+    for (place, block) in device.places.iter().zip(words.chunks_exact_mut(BLOCK)) {
+        match place {
+            None => block.fill(0),
+            Some(stream) => write_place(stream, block),
+        }
+    }
+}
+
+fn write_place(stream: &Stream, block: &mut [u32]) {
+    block[0] = 1;
+    block[1] = stream.number;
+    block[2] = stream.coded_format;
+    block[3] = u32::from(stream.drain.is_some());
+    block[4] = stream.drain.unwrap_or(0);
+    block[5..INPUT_AT].fill(0);
+    write_queue(&stream.input, &mut block[INPUT_AT..OUTPUT_AT]);
+    write_queue(&stream.output, &mut block[OUTPUT_AT..TAIL_AT]);
+    block[TAIL_AT..].fill(0);
+}
+
+fn write_queue(queue: &Queue, words: &mut [u32]) {
+    words[0] = u32::from(queue.clear_in_progress);
+    words[1] = queue.parameters.width;
+    words[2] = queue.parameters.height;
+    words[3] = queue.parameters.rate;
+    for (resource, slot) in queue.resources.iter().zip(words[SLOTS_AT..].chunks_exact_mut(SLOT)) {
+        slot.copy_from_slice(&match resource {
+            None => [0; SLOT],
+            Some(Resource { number, state: State::Created }) => [1, *number, 0, 0, 0],
+            Some(Resource { number, state: State::Queued { ticket, timestamp } }) => {
+                [2, *number, *ticket, *timestamp as u32, (*timestamp >> 32) as u32]
+            }
+            Some(Resource { number, state: State::Dequeued }) => [3, *number, 0, 0, 0],
+        });
+    }
+}
+
+/// The words that have no use in the table of these records: no value but 0 may stand there. (A
+/// free slot's state is not among them, since with another state it is another record.)
+pub fn without_use(device: &Device) -> Vec<usize> {
+    let mut unused = Vec::new();
+    for (place, start) in device.places.iter().zip((0..).step_by(BLOCK)) {
+        let Some(stream) = place else {
+            unused.extend(start..start + BLOCK);
+            continue;
+        };
+        if stream.drain.is_none() {
+            unused.push(start + 4);
+        }
+        unused.extend(start + 5..start + INPUT_AT);
+        for (queue, at) in [(&stream.input, INPUT_AT), (&stream.output, OUTPUT_AT)] {
+            for (slot, resource) in queue.resources.iter().enumerate() {
+                let first = start + at + SLOTS_AT + slot * SLOT;
+                match resource.map(|resource| resource.state) {
+                    None => unused.extend(first + 1..first + SLOT),
+                    Some(State::Queued { .. }) => {}
+                    Some(State::Created | State::Dequeued) => {
+                        unused.extend(first + 2..first + SLOT)
+                    }
+                }
+            }
+        }
+        unused.extend(start + TAIL_AT..start + BLOCK);
+    }
+    unused
+}
+
+fn ask(kept: bool, rule: Broken, slip: Option<Slip>) -> Result<(), Broken> {
+    if kept || slip == Some(Slip::Taken(rule)) {
+        Ok(())
+    } else {
+        Err(rule)
+    }
+}
+
+/// Without a way out of the loop, so that many words are looked at together.
+fn all_zero(words: &[u32]) -> bool {
+    words.iter().fold(0, |all, word| all | word) == 0
+}
+
+fn twice(numbers: impl Iterator<Item = u32>) -> bool {
+    let mut seen = [0; if PLACES > SLOTS { PLACES } else { SLOTS }];
+    for (count, number) in numbers.enumerate() {
+        if seen[..count].contains(&number) {
+            return true;
+        }
+        seen[count] = number;
+    }
+    false
+}
+
+fn has_hole(queue: &Queue) -> bool {
+    queue.resources.windows(2).any(|pair| pair[0].is_none() && pair[1].is_some())
+}

@@ -1,0 +1,102 @@
+//! The independent device on a lent table: the same work as the core, the test of validity
+//! included.
+
+use super::device::{Act, Device, Report, COMMAND, DRAINED, FINISH, ROOM};
+use super::layout::{self, WORDS};
+use super::slips::Slip;
+
+/// What a step gives back: a refusal number or 0, with the number of bytes written.
+#[repr(C)]
+#[derive(Clone, Copy, Debug, PartialEq, Eq)]
+pub struct Outcome {
+    pub refusal: u32,
+    pub written: u32,
+}
+
+/// The four entries of a core.
+pub trait Core {
+    fn fresh(&self, table: &mut [u32]) -> u32;
+    fn command(&self, table: &mut [u32], ticket: u32, frame: &[u8], answers: &mut [u8]) -> Outcome;
+    fn finish(&self, table: &mut [u32], report: &Report, answers: &mut [u8]) -> Outcome;
+    fn drained(&self, table: &mut [u32], stream: u32, answers: &mut [u8]) -> Outcome;
+
+    fn step(&self, table: &mut [u32], act: &Act, answers: &mut [u8]) -> Outcome {
+        match act {
+            Act::Command { ticket, frame } => self.command(table, *ticket, frame, answers),
+            Act::Finish(report) => self.finish(table, report, answers),
+            Act::Drained { stream } => self.drained(table, *stream, answers),
+        }
+    }
+}
+
+/// The independent device as a core, with a slip or none.
+#[derive(Clone, Copy, Debug, Default)]
+pub struct OnWords(pub Option<Slip>);
+
+impl Core for OnWords {
+    fn fresh(&self, table: &mut [u32]) -> u32 {
+        if table.len() < WORDS {
+            return 1;
+        }
+        let end = if self.0 == Some(Slip::FreshAllWords) { table.len() } else { WORDS };
+        table[..end].fill(0);
+        0
+    }
+
+    fn command(&self, table: &mut [u32], ticket: u32, frame: &[u8], answers: &mut [u8]) -> Outcome {
+        on_words(self.0, COMMAND, table, answers, |device, room| {
+            let done = device.command(ticket, frame, room);
+            (done.refusal, done.written)
+        })
+    }
+
+    fn finish(&self, table: &mut [u32], report: &Report, answers: &mut [u8]) -> Outcome {
+        on_words(self.0, FINISH, table, answers, |device, room| {
+            let done = device.finish(report, room);
+            (done.refusal, done.written)
+        })
+    }
+
+    fn drained(&self, table: &mut [u32], stream: u32, answers: &mut [u8]) -> Outcome {
+        on_words(self.0, DRAINED, table, answers, |device, room| {
+            let done = device.drained(stream, room);
+            (done.refusal, done.written)
+        })
+    }
+}
+
+/// One step on a lent table and answer room: test, read, step, write back.
+pub fn step_on_words(table: &mut [u32], act: &Act, room: &mut [u8]) -> Outcome {
+    OnWords(None).step(table, act, room)
+}
+
+/// "Tested 1, 3, 2, then" the step's own.
+fn on_words(
+    slip: Option<Slip>,
+    kind: u32,
+    table: &mut [u32],
+    room: &mut [u8],
+    step: impl FnOnce(&mut Device, usize) -> (u32, Vec<u8>),
+) -> Outcome {
+    let refuse = |refusal| Outcome { refusal, written: 0 };
+    let Some(words) = table.get_mut(..WORDS) else {
+        return refuse(1);
+    };
+    if room.len() < ROOM && !slip.is_some_and(|slip| slip.leaves_room_to_device(kind)) {
+        return refuse(3);
+    }
+    let Ok(mut device) = layout::read(words, slip) else {
+        return refuse(2);
+    };
+    let (refusal, written) = step(&mut device, room.len());
+    if refusal != 0 {
+        return refuse(refusal);
+    }
+    layout::write(&device, words);
+    let count = written.len().min(room.len());
+    room[..count].copy_from_slice(&written[..count]);
+    if slip == Some(Slip::RoomCleared) {
+        room[count..].fill(0);
+    }
+    Outcome { refusal: 0, written: written.len() as u32 }
+}

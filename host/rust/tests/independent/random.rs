@@ -1,0 +1,1082 @@
+//! Seeded random steps, tables and rooms. The generator looks at the independent device's records
+//! to aim at what is there, so that runs get to full tables, many Queued buffers, drains and
+//! clears, and to both sides of each edge.
+
+use super::device::*;
+use super::frames::{self, put, put_long};
+use super::layout::{self, BLOCK, INPUT_AT, OUTPUT_AT, SLOT, SLOTS_AT, TAIL_AT, WORDS};
+
+/// SplitMix64: one number of state, every seed good.
+#[derive(Clone, Debug)]
+pub struct Rng(u64);
+
+impl Rng {
+    pub fn new(seed: u64) -> Rng {
+        Rng(seed)
+    }
+
+    pub fn long(&mut self) -> u64 {
+        self.0 = self.0.wrapping_add(0x9e37_79b9_7f4a_7c15);
+        let mut mixed = self.0;
+        mixed = (mixed ^ mixed >> 30).wrapping_mul(0xbf58_476d_1ce4_e5b9);
+        mixed = (mixed ^ mixed >> 27).wrapping_mul(0x94d0_49bb_1331_11eb);
+        mixed ^ mixed >> 31
+    }
+
+    pub fn word(&mut self) -> u32 {
+        (self.long() >> 32) as u32
+    }
+
+    /// 0 to `bound` - 1.
+    pub fn below(&mut self, bound: usize) -> usize {
+        ((u128::from(self.long()) * bound as u128) >> 64) as usize
+    }
+
+    pub fn within(&mut self, from: usize, to: usize) -> usize {
+        from + self.below(to - from + 1)
+    }
+
+    pub fn percent(&mut self, chance: usize) -> bool {
+        self.below(100) < chance
+    }
+
+    pub fn pick<T: Copy>(&mut self, from: &[T]) -> T {
+        from[self.below(from.len())]
+    }
+
+    pub fn fill(&mut self, bytes: &mut [u8]) {
+        for chunk in bytes.chunks_mut(8) {
+            let length = chunk.len();
+            chunk.copy_from_slice(&self.long().to_le_bytes()[..length]);
+        }
+    }
+
+    pub fn shuffle<T>(&mut self, items: &mut [T]) {
+        for last in (1..items.len()).rev() {
+            items.swap(last, self.below(last + 1));
+        }
+    }
+}
+
+/// Few numbers, so that they meet again; on both sides of the sign, and some that are also
+/// something else.
+const STREAMS: [u32; 12] =
+    [0, 1, 2, 3, 5, 7, 0x100, 0x101, 1023, 0x7fff_ffff, 0x8000_0000, 0xffff_ffff];
+const RESOURCES: [u32; 24] = [
+    0,
+    1,
+    2,
+    3,
+    4,
+    5,
+    6,
+    7,
+    8,
+    9,
+    10,
+    15,
+    16,
+    17,
+    0x100,
+    0x101,
+    0x200,
+    0x1000,
+    0x7fff_fffe,
+    0x7fff_ffff,
+    0x8000_0000,
+    0x8000_0001,
+    0xffff_fffe,
+    0xffff_ffff,
+];
+/// What a word of a frame or a table may be damaged to.
+const ODD_WORDS: [u32; 32] = [
+    0,
+    1,
+    2,
+    3,
+    4,
+    5,
+    7,
+    8,
+    9,
+    14,
+    15,
+    16,
+    17,
+    18,
+    0xff,
+    0x100,
+    0x101,
+    0x102,
+    256,
+    257,
+    0xfff,
+    0x1000,
+    0x1005,
+    0x1006,
+    4094,
+    4095,
+    4097,
+    4098,
+    0x7fff_ffff,
+    0x8000_0000,
+    0xffff_fffe,
+    0xffff_ffff,
+];
+const EXTENTS: [u32; 16] =
+    [0, 2, 14, 15, 16, 17, 18, 480, 640, 4094, 4095, 4096, 4097, 4098, 0x8000_0010, 0xffff_fffe];
+const BAD_QUEUE_TYPES: [u32; 10] =
+    [0, 1, 0xff, 0x102, 0x103, 0x200, 0x0001_0100, 0x0100_0101, 0x8000_0100, 0xffff_ffff];
+const UNKNOWN_TYPES: [u32; 16] = [
+    0x0100,
+    0x0100,
+    0x00ff,
+    0x010d,
+    0x010e,
+    0,
+    1,
+    0x0200,
+    0x0203,
+    0x0300,
+    0x0304,
+    0x0001_0102,
+    0x0101_0105,
+    0x8000_0103,
+    0x0201_0000,
+    0xffff_ffff,
+];
+
+/// A width or height with the names of its edges.
+const EXTENT_EDGES: [(u32, &str, &str); 9] = [
+    (0, "0 wide", "0 high"),
+    (14, "14 wide", "14 high"),
+    (15, "15 wide", "15 high"),
+    (16, "16 wide", "16 high"),
+    (4095, "4,095 wide", "4,095 high"),
+    (4096, "4,096 wide", "4,096 high"),
+    (4097, "4,097 wide", "4,097 high"),
+    (4098, "4,098 wide", "4,098 high"),
+    (0x8000_0010, "2^31 + 16 wide", "2^31 + 16 high"),
+];
+
+/// Bytes that are UTF-8 by RFC 3629: the first and last character of each length and beside the
+/// surrogates, and odd ones.
+const GOOD_TEXT: [&[u8]; 14] = [
+    b"\x01",
+    b"\x7f",
+    b"\xc2\x80",
+    b"\xdf\xbf",
+    b"\xe0\xa0\x80",
+    b"\xed\x9f\xbf",
+    b"\xee\x80\x80",
+    b"\xef\xbb\xbf",
+    b"\xef\xbf\xbe",
+    b"\xef\xbf\xbf",
+    b"\xf0\x90\x80\x80",
+    b"\xf3\xb0\x80\x80",
+    b"\xf4\x8f\xbf\xbf",
+    b"\xe4\xb8\xad",
+];
+
+/// Bytes that are not, each with its name among the edges.
+pub const BAD_TEXT: [(&str, &[u8]); 22] = [
+    ("tag: 80 alone", b"\x80"),
+    ("tag: bf alone", b"\xbf"),
+    ("tag: c0 80", b"\xc0\x80"),
+    ("tag: c1 bf", b"\xc1\xbf"),
+    ("tag: c2 41", b"\xc2A"),
+    ("tag: c2 c0", b"\xc2\xc0"),
+    ("tag: e0 80 80", b"\xe0\x80\x80"),
+    ("tag: e0 9f bf", b"\xe0\x9f\xbf"),
+    ("tag: e1 80 41", b"\xe1\x80A"),
+    ("tag: e1 41 80", b"\xe1A\x80"),
+    ("tag: ed a0 80", b"\xed\xa0\x80"),
+    ("tag: ed bf bf", b"\xed\xbf\xbf"),
+    ("tag: ee 80 c0", b"\xee\x80\xc0"),
+    ("tag: f0 80 80 80", b"\xf0\x80\x80\x80"),
+    ("tag: f0 8f bf bf", b"\xf0\x8f\xbf\xbf"),
+    ("tag: f1 80 80 41", b"\xf1\x80\x80A"),
+    ("tag: f1 80 c0 80", b"\xf1\x80\xc0\x80"),
+    ("tag: f4 90 80 80", b"\xf4\x90\x80\x80"),
+    ("tag: f5 80 80 80", b"\xf5\x80\x80\x80"),
+    ("tag: f8 88 80 80 80", b"\xf8\x88\x80\x80\x80"),
+    ("tag: fe", b"\xfe"),
+    ("tag: ff", b"\xff"),
+];
+
+#[derive(Clone, Copy, PartialEq, Eq)]
+enum Kind {
+    Create,
+    Destroy,
+    Drain,
+    Resource,
+    Queue,
+    DestroyAll,
+    Clear,
+    Get,
+    Set,
+    Control,
+    Unknown,
+    Finish,
+    Drained,
+}
+
+const KINDS: [Kind; 13] = [
+    Kind::Create,
+    Kind::Destroy,
+    Kind::Drain,
+    Kind::Resource,
+    Kind::Queue,
+    Kind::DestroyAll,
+    Kind::Clear,
+    Kind::Get,
+    Kind::Set,
+    Kind::Control,
+    Kind::Unknown,
+    Kind::Finish,
+    Kind::Drained,
+];
+
+/// How often each kind of step comes, by mood: filling, working, stopping, anything.
+const MOODS: [[usize; 13]; 4] = [
+    [14, 1, 2, 38, 36, 1, 1, 1, 3, 1, 1, 1, 1],
+    [3, 1, 10, 6, 32, 2, 3, 3, 4, 1, 1, 27, 8],
+    [6, 8, 12, 14, 28, 9, 14, 2, 4, 1, 1, 6, 4],
+    [8, 6, 8, 8, 8, 8, 8, 8, 8, 8, 8, 8, 8],
+];
+
+/// A generator of steps, with what it has set itself to do.
+pub struct Generator {
+    pub rng: Rng,
+    /// The edge that the last step was made for, if any.
+    pub edge: Option<&'static str>,
+    mood: usize,
+    left: usize,
+    /// Steps to come, the next one last.
+    plan: Vec<Act>,
+}
+
+impl Generator {
+    pub fn new(seed: u64) -> Generator {
+        Generator { rng: Rng::new(seed), edge: None, mood: 0, left: 0, plan: Vec::new() }
+    }
+
+    /// Forgets what was planned, since the table is another one.
+    pub fn start_anew(&mut self) {
+        self.plan.clear();
+        self.left = 0;
+    }
+
+    /// The next step for a device with these records.
+    pub fn act(&mut self, device: &Device) -> Act {
+        self.edge = None;
+        if let Some(act) = self.plan.pop() {
+            return act;
+        }
+        if self.left == 0 {
+            self.mood = self.rng.below(MOODS.len());
+            self.left = self.rng.within(10, 100);
+            if self.rng.percent(20) {
+                self.plan_peak(device);
+            }
+        }
+        self.left -= 1;
+        let weights = &MOODS[self.mood];
+        let mut at = self.rng.below(weights.iter().sum());
+        let mut kind = 0;
+        while at >= weights[kind] {
+            at -= weights[kind];
+            kind += 1;
+        }
+        match KINDS[kind] {
+            Kind::Finish => self.finish(device),
+            Kind::Drained => self.drained(device),
+            kind => {
+                let mut frame = self.frame(kind, device);
+                self.damage(&mut frame);
+                Act::Command { ticket: self.ticket(), frame }
+            }
+        }
+    }
+
+    fn ticket(&mut self) -> u32 {
+        if self.rng.percent(60) {
+            self.rng.word()
+        } else {
+            self.rng.pick(&[0, 1, 2, 0x8000_0000, 0xffff_ffff])
+        }
+    }
+
+    fn timestamp(&mut self) -> u64 {
+        match self.rng.below(6) {
+            0 => 0,
+            1 => u64::MAX,
+            2 => 1 << self.rng.below(64),
+            3 => u64::from(self.rng.word()),
+            _ => self.rng.long(),
+        }
+    }
+
+    /// Fills bytes that the device ignores: half the time with anything.
+    fn noise(&mut self, bytes: &mut [u8]) {
+        if self.rng.percent(50) {
+            self.rng.fill(bytes);
+        }
+    }
+
+    /// A live stream, mostly.
+    fn stream(&mut self, device: &Device) -> u32 {
+        if self.rng.percent(92) {
+            if let Some(stream) = self.live(device) {
+                return stream.number;
+            }
+        }
+        self.rng.pick(&STREAMS)
+    }
+
+    fn live<'d>(&mut self, device: &'d Device) -> Option<&'d Stream> {
+        let count = device.places.iter().flatten().count();
+        if count == 0 {
+            return None;
+        }
+        let chosen = self.rng.below(count);
+        device.places.iter().flatten().nth(chosen)
+    }
+
+    fn queue_type(&mut self) -> u32 {
+        if self.rng.percent(96) {
+            self.rng.pick(&[INPUT, OUTPUT])
+        } else {
+            self.rng.pick(&BAD_QUEUE_TYPES)
+        }
+    }
+
+    fn frame(&mut self, kind: Kind, device: &Device) -> Vec<u8> {
+        match kind {
+            Kind::Create => self.stream_create(device),
+            Kind::Destroy => frames::frame(STREAM_DESTROY, self.stream(device), 8),
+            Kind::Drain => frames::frame(STREAM_DRAIN, self.stream(device), 8),
+            Kind::Resource => self.resource_create(device),
+            Kind::Queue => self.resource_queue(device),
+            Kind::DestroyAll => self.on_queue(RESOURCE_DESTROY_ALL, device),
+            Kind::Clear => self.on_queue(QUEUE_CLEAR, device),
+            Kind::Get => self.on_queue(GET_PARAMS, device),
+            Kind::Set => self.set_params(device),
+            Kind::Control => {
+                let kind = self.rng.pick(&[QUERY_CONTROL, GET_CONTROL, SET_CONTROL]);
+                let length =
+                    self.rng.pick(&[16, 16, 16, 16, 16, 15, 15, 17, 17, 24, 24, 32, 8, 70_000]);
+                let mut frame = frames::frame(kind, self.stream(device), length);
+                self.noise(&mut frame[8..]);
+                frame
+            }
+            _ => {
+                let kind = self.rng.pick(&UNKNOWN_TYPES);
+                let length = self.rng.pick(&[8, 8, 16, 24, 64, 88, 120]);
+                let mut frame = frames::frame(kind, self.stream(device), length);
+                self.noise(&mut frame[8..]);
+                frame
+            }
+        }
+    }
+
+    fn stream_create(&mut self, device: &Device) -> Vec<u8> {
+        let number =
+            if self.rng.percent(85) { self.absent_stream(device) } else { self.stream(device) };
+        let mut format = 0x1000 + self.rng.below(6) as u32;
+        if self.rng.percent(6) {
+            format = self.rng.pick(&[
+                0,
+                3,
+                0x0fff,
+                0x1006,
+                0x1007,
+                0x1100,
+                0x0001_1000,
+                0x8000_1000,
+                0xffff_ffff,
+            ]);
+        }
+        let tag = self.tag();
+        let mut frame = frames::stream_create(number, format, &tag);
+        self.noise(&mut frame[20..24]);
+        if self.rng.percent(3) {
+            let odd = self.rng.pick(&[1, 2, 0x100, 0x8000_0000]);
+            let at = self.rng.pick(&[8, 12]);
+            put(&mut frame, at, odd);
+        }
+        frame
+    }
+
+    fn absent_stream(&mut self, device: &Device) -> u32 {
+        for _ in 0..20 {
+            let number = self.rng.pick(&STREAMS);
+            if !device.places.iter().flatten().any(|stream| stream.number == number) {
+                return number;
+            }
+        }
+        self.rng.word()
+    }
+
+    /// A tag of 64 bytes, good more often than not.
+    fn tag(&mut self) -> [u8; 64] {
+        let mut tag = [0; 64];
+        match self.rng.below(12) {
+            0 => {
+                self.edge = Some("tag empty");
+                self.noise(&mut tag[1..]);
+            }
+            1 => {
+                self.edge = Some("tag of 63 letters and a NUL");
+                self.letters(&mut tag[..63]);
+            }
+            2 => {
+                self.edge = Some("tag of 64 letters");
+                self.letters(&mut tag);
+            }
+            3 => {
+                self.edge = Some("tag with bad bytes behind its NUL");
+                let end = self.rng.below(60);
+                self.letters(&mut tag[..end]);
+                self.rng.fill(&mut tag[end + 1..]);
+                tag[63] = 0xff;
+            }
+            4 => {
+                // A character whose end is cut by the NUL, which may be the tag's last byte.
+                self.edge = Some("tag with a character cut by its NUL");
+                let cut = self.rng.pick(&[
+                    &b"\xc3"[..],
+                    b"\xe4\xb8",
+                    b"\xe4",
+                    b"\xf0\x9f\x98",
+                    b"\xf0\x9f",
+                    b"\xf0",
+                ]);
+                let end = if self.rng.percent(40) { 63 - cut.len() } else { self.rng.below(60) };
+                self.letters(&mut tag[..end]);
+                tag[end..end + cut.len()].copy_from_slice(cut);
+                if self.rng.percent(50) {
+                    tag[end + cut.len() + 1..].fill(0x80);
+                }
+            }
+            5 | 6 => {
+                let (edge, bad) = self.rng.pick(&BAD_TEXT);
+                self.edge = Some(edge);
+                let at = self.rng.below(63 - bad.len());
+                self.letters(&mut tag[..at]);
+                tag[at..at + bad.len()].copy_from_slice(bad);
+                if self.rng.percent(50) {
+                    self.letters(&mut tag[at + bad.len()..63]);
+                }
+            }
+            7 => {
+                // Anything with a NUL somewhere.
+                let at = self.rng.below(64);
+                self.rng.fill(&mut tag);
+                tag[at] = 0;
+            }
+            8 | 9 => {
+                self.edge = Some("tag with characters of each length");
+                let mut at = 0;
+                loop {
+                    let text = self.rng.pick(&GOOD_TEXT);
+                    if at + text.len() > 63 || self.rng.percent(4) {
+                        break;
+                    }
+                    tag[at..at + text.len()].copy_from_slice(text);
+                    at += text.len();
+                }
+                self.noise(&mut tag[at + 1..]);
+            }
+            _ => {
+                let end = self.rng.below(64);
+                self.letters(&mut tag[..end]);
+            }
+        }
+        tag
+    }
+
+    fn letters(&mut self, bytes: &mut [u8]) {
+        for byte in bytes {
+            *byte = b'a' + self.rng.below(26) as u8;
+        }
+    }
+
+    fn resource_create(&mut self, device: &Device) -> Vec<u8> {
+        if self.rng.percent(2) {
+            let (edge, length) = self.rng.pick(&[
+                ("0x0104 of 87 bytes on a dead stream", 87),
+                ("0x0104 of 88 bytes on a dead stream", 88),
+                ("0x0104 of 89 bytes on a dead stream", 89),
+            ]);
+            self.edge = Some(edge);
+            return frames::frame(RESOURCE_CREATE, self.absent_stream(device), length);
+        }
+        let number = self.stream(device);
+        let queue_type = self.queue_type();
+        let live = device.places.iter().flatten().find(|stream| stream.number == number);
+        let resource = match live {
+            Some(stream) if self.rng.percent(85) => self.absent_resource(queue(stream, queue_type)),
+            Some(stream) => self.present_resource(queue(stream, queue_type)),
+            None => self.rng.pick(&RESOURCES),
+        };
+        let (counts, present) = self.entry_counts();
+        let mut entries: Vec<(u64, u32)> = (0..present)
+            .map(|_| {
+                let length = if self.rng.percent(90) { 0x1000 } else { self.rng.word().max(1) };
+                (self.rng.long() >> 1, length)
+            })
+            .collect();
+        self.edge_entry(&mut entries);
+        let mut frame = frames::resource_create(number, queue_type, resource, &counts, &entries);
+        put(&mut frame, 16, if self.rng.percent(50) { 1 } else { 2 });
+        if self.rng.percent(3) {
+            let layout = self.rng.pick(&[0, 3, 4, 0x0001_0001, 0x8000_0002]);
+            put(&mut frame, 16, layout);
+        }
+        self.noise(&mut frame[24..56]);
+        let used = counts.len().min(8);
+        self.noise(&mut frame[56 + 4 * used..88]);
+        if self.rng.percent(30) {
+            for entry in frame[88..].chunks_exact_mut(16) {
+                self.rng.fill(&mut entry[12..]);
+            }
+        }
+        frame
+    }
+
+    /// Entry counts of the planes and the number of entries that the frame gets.
+    fn entry_counts(&mut self) -> (Vec<u32>, usize) {
+        let planes = self.rng.within(1, 8);
+        match self.rng.below(60) {
+            0 => self.edge_counts("entry sum 256", planes, 256, 256),
+            1 => self.edge_counts("entry sum 257", planes, 257, 257),
+            2 => self.edge_counts("entry sum 0", planes, 0, 0),
+            3 => {
+                let planes = planes.max(2);
+                self.edge_counts("entry sum 2^32 + 1", planes, (1 << 32) + 1, 1)
+            }
+            4 => {
+                let planes = planes.max(2);
+                let more = self.rng.within(0, 256);
+                self.edge_counts(
+                    "entry sum 2^32 to 2^32 + 256",
+                    planes,
+                    (1 << 32) + more as u64,
+                    more,
+                )
+            }
+            5 => self.edge_counts("eight planes", 8, 8, 8),
+            6 => {
+                // The first eight counts are right, the plane count is not.
+                let planes = self.rng.within(9, 12);
+                self.edge = Some("nine planes");
+                (vec![1; planes], 8)
+            }
+            7 => {
+                self.edge = Some("no plane");
+                (Vec::new(), self.rng.below(2))
+            }
+            8 => {
+                let sum = self.rng.within(1, 256);
+                let present = self.rng.pick(&[sum - 1, sum + 1]);
+                self.edge_counts("one entry more or less", planes, sum as u64, present)
+            }
+            9 => {
+                let sum = self.rng.within(1, 256);
+                self.edge_counts("entry sum 1 to 256", planes, sum as u64, sum)
+            }
+            _ => {
+                let sum = self.rng.within(1, 4);
+                self.spread(planes, sum as u64, sum)
+            }
+        }
+    }
+
+    fn edge_counts(
+        &mut self,
+        edge: &'static str,
+        planes: usize,
+        sum: u64,
+        present: usize,
+    ) -> (Vec<u32>, usize) {
+        self.edge = Some(edge);
+        self.spread(planes, sum, present)
+    }
+
+    /// Counts that add up to the sum, at random, some of them 0.
+    fn spread(&mut self, planes: usize, sum: u64, present: usize) -> (Vec<u32>, usize) {
+        let mut counts = vec![0; planes];
+        let mut left = sum;
+        while left > 0 {
+            let plane = self.rng.below(planes);
+            let most = left.min(u64::from(u32::MAX - counts[plane]));
+            let part =
+                if self.rng.percent(50) { most } else { most.min(1 + self.rng.below(100) as u64) };
+            counts[plane] += part as u32;
+            left -= part;
+        }
+        (counts, present)
+    }
+
+    /// Makes one entry end at 2^64, or one past it, or be empty.
+    fn edge_entry(&mut self, entries: &mut [(u64, u32)]) {
+        if entries.is_empty() || self.rng.percent(85) {
+            return;
+        }
+        let at = self.rng.below(entries.len());
+        let long = self.rng.word().max(2);
+        let length = self.rng.pick(&[2, 0x1000, u32::MAX, long]);
+        let top = 0u64.wrapping_sub(u64::from(length));
+        let edge = match self.rng.below(5) {
+            0 | 1 => {
+                entries[at] = (top, length);
+                "entry ending at 2^64"
+            }
+            2 => {
+                entries[at] = (top + 1, length);
+                "entry ending one past 2^64"
+            }
+            3 => {
+                entries[at] = (u64::MAX, 1);
+                "last byte of memory"
+            }
+            _ => {
+                entries[at].1 = 0;
+                "entry of length 0"
+            }
+        };
+        self.edge = self.edge.is_none().then_some(edge);
+    }
+
+    fn absent_resource(&mut self, queue: &Queue) -> u32 {
+        for _ in 0..20 {
+            let number = self.rng.pick(&RESOURCES);
+            if !queue.has(number) {
+                return number;
+            }
+        }
+        self.rng.word()
+    }
+
+    fn present_resource(&mut self, queue: &Queue) -> u32 {
+        let numbers: Vec<u32> =
+            queue.resources.iter().flatten().map(|resource| resource.number).collect();
+        if numbers.is_empty() {
+            return self.rng.pick(&RESOURCES);
+        }
+        self.rng.pick(&numbers)
+    }
+
+    fn resource_queue(&mut self, device: &Device) -> Vec<u8> {
+        let number = self.stream(device);
+        let queue_type = self.queue_type();
+        let live = device.places.iter().flatten().find(|stream| stream.number == number);
+        let resource = match live {
+            Some(stream) if self.rng.percent(92) => {
+                self.resource_to_queue(queue(stream, queue_type))
+            }
+            _ => self.rng.pick(&RESOURCES),
+        };
+        let sizes = match self.rng.below(20) {
+            0 | 1 => {
+                self.edge = Some("size count 8");
+                8
+            }
+            2 => {
+                self.edge = Some("size count 9");
+                9
+            }
+            3 => self.rng.pick(&[10, 0x100, 0x8000_0000, 0xffff_ffff]),
+            _ => self.rng.below(8) as u32,
+        };
+        let timestamp = self.timestamp();
+        let mut frame = frames::resource_queue(number, queue_type, resource, timestamp, sizes);
+        self.noise(&mut frame[28..]);
+        frame
+    }
+
+    /// One that is not Queued, mostly.
+    fn resource_to_queue(&mut self, queue: &Queue) -> u32 {
+        let idle: Vec<u32> = queue
+            .resources
+            .iter()
+            .flatten()
+            .filter(|resource| !resource.is_queued())
+            .map(|resource| resource.number)
+            .collect();
+        if idle.is_empty() || self.rng.percent(15) {
+            return self.present_resource(queue);
+        }
+        self.rng.pick(&idle)
+    }
+
+    fn on_queue(&mut self, kind: u32, device: &Device) -> Vec<u8> {
+        let number = self.stream(device);
+        let queue_type = self.queue_type();
+        let live = device.places.iter().flatten().find(|stream| stream.number == number);
+        if let (QUEUE_CLEAR, Some(stream), Some(_)) = (kind, live, QueueType::of(queue_type)) {
+            if !queue(stream, queue_type).any_queued() {
+                self.edge = Some(match stream.drain {
+                    None => "clear of an empty queue, no drain owed",
+                    Some(_) => "clear of an empty queue, drain owed",
+                });
+            }
+        }
+        let mut frame = frames::on_queue(kind, number, queue_type);
+        self.noise(&mut frame[12..]);
+        frame
+    }
+
+    fn set_params(&mut self, device: &Device) -> Vec<u8> {
+        let number = self.stream(device);
+        let queue_type = self.queue_type();
+        let live = device.places.iter().flatten().find(|stream| stream.number == number);
+        let coded = live.map_or(0x1000, |stream| stream.coded_format);
+        let mut format = if queue_type == INPUT { coded } else { NV12 };
+        if self.rng.percent(10) {
+            format = self.rng.pick(&[0, 1, 2, 3, 4, coded, 0x0fff, 0x1000, 0x1001, 0x1005, 0x1006]);
+        }
+        let (mut width, mut height) = (self.extent(), self.extent());
+        let rate = if self.rng.percent(50) { 30 } else { self.rng.word() };
+        if self.rng.percent(35) {
+            let (extent, wide, high) = self.rng.pick(&EXTENT_EDGES);
+            if self.rng.percent(50) {
+                width = extent;
+                self.edge = Some(wide);
+            } else {
+                height = extent;
+                self.edge = Some(high);
+            }
+        } else if self.rng.percent(10) {
+            width = self.rng.pick(&EXTENTS);
+            height = self.rng.pick(&EXTENTS);
+        }
+        let mut frame = frames::set_params(number, queue_type, format, width, height, rate);
+        self.noise(&mut frame[24..48]);
+        self.noise(&mut frame[52..]);
+        frame
+    }
+
+    /// A good width or height.
+    fn extent(&mut self) -> u32 {
+        16 + 2 * self.rng.below(2041) as u32
+    }
+
+    fn finish(&mut self, device: &Device) -> Act {
+        let draining: Vec<&Stream> =
+            device.places.iter().flatten().filter(|stream| stream.drain.is_some()).collect();
+        let stream = if !draining.is_empty() && self.rng.percent(50) {
+            Some(self.rng.pick(&draining))
+        } else {
+            self.live(device)
+        };
+        let mut queue_type = self.queue_type();
+        let (mut number, mut resource) = (self.rng.pick(&STREAMS), self.rng.pick(&RESOURCES));
+        if let Some(stream) = stream {
+            if self.rng.percent(94) {
+                number = stream.number;
+                let queued: Vec<(u32, u32)> = [(INPUT, &stream.input), (OUTPUT, &stream.output)]
+                    .into_iter()
+                    .flat_map(|(of, queue)| {
+                        queue.resources.iter().flatten().map(move |resource| (of, resource))
+                    })
+                    .filter(|(_, resource)| resource.is_queued())
+                    .map(|(of, resource)| (of, resource.number))
+                    .collect();
+                if !queued.is_empty() && self.rng.percent(85) {
+                    (queue_type, resource) = self.rng.pick(&queued);
+                    if self.rng.percent(6) {
+                        queue_type = INPUT + OUTPUT - queue_type;
+                    }
+                } else {
+                    resource = self.present_resource(queue(stream, queue_type));
+                }
+            }
+        }
+        let flags = self.rng.pick(&[
+            0,
+            0,
+            0,
+            0,
+            0,
+            0,
+            1,
+            1,
+            1,
+            2,
+            2,
+            2,
+            3,
+            3,
+            4,
+            5,
+            6,
+            8,
+            0x8000_0000,
+            0x8000_0001,
+            0xffff_ffff,
+        ]);
+        let timestamp = self.timestamp();
+        Act::Finish(Report { stream: number, queue_type, resource, flags, timestamp })
+    }
+
+    fn drained(&mut self, device: &Device) -> Act {
+        let ready: Vec<u32> = device
+            .places
+            .iter()
+            .flatten()
+            .filter(|stream| stream.drain.is_some() && !stream.input.any_queued())
+            .map(|stream| stream.number)
+            .collect();
+        let stream = if !ready.is_empty() && self.rng.percent(60) {
+            self.rng.pick(&ready)
+        } else {
+            self.stream(device)
+        };
+        Act::Drained { stream }
+    }
+
+    /// Now and then a frame gets another length, flipped bits or an odd word.
+    fn damage(&mut self, frame: &mut Vec<u8>) {
+        let length = frame.len();
+        match self.rng.below(100) {
+            0..=2 => {
+                let shorter = self.rng.pick(&[1, 1, 2, 4, 8, 16, 72]);
+                frame.truncate(length.saturating_sub(shorter));
+            }
+            3..=5 => {
+                let longer = self.rng.pick(&[1, 1, 2, 4, 8, 16, 72]);
+                frame.resize(length + longer, 0);
+                self.noise(&mut frame[length..]);
+            }
+            6 => frame.truncate(self.rng.below(length + 1)),
+            7 => {
+                let few = self.rng.within(0, 9);
+                frame.resize(few, 0);
+            }
+            8..=10 => {
+                for _ in 0..self.rng.within(1, 3) {
+                    let bit = self.rng.below(8 * length.min(200));
+                    frame[bit / 8] ^= 1 << (bit % 8);
+                }
+            }
+            11..=13 => {
+                let at = 4 * self.rng.below(length.min(200) / 4);
+                let odd = self.rng.pick(&ODD_WORDS);
+                if at + 4 <= length {
+                    put(frame, at, odd);
+                }
+            }
+            14 => {
+                let length = self.rng.within(0, 200);
+                frame.resize(length, 0);
+                self.rng.fill(frame);
+            }
+            15 => {
+                // The first entry, damaged at its edges.
+                if length >= 104 {
+                    let odd =
+                        self.rng.pick(&[0, u64::MAX, u64::MAX - 0xfff, u64::MAX - 0x1000, 1 << 63]);
+                    put_long(frame, 88, odd);
+                }
+            }
+            _ => return,
+        }
+        self.edge = None;
+    }
+
+    /// Fills one stream to sixteen Queued inputs and outputs and a drain, then ends it one way or
+    /// another.
+    fn plan_peak(&mut self, device: &Device) {
+        let mut plan = Vec::new();
+        let mut add =
+            |rng: &mut Rng, frame: Vec<u8>| plan.push(Act::Command { ticket: rng.word(), frame });
+        let live = self.live(device).cloned();
+        let stream = live.unwrap_or_else(|| {
+            let number = self.absent_stream(device);
+            add(&mut self.rng, frames::stream_create(number, 0x1002, b"peak"));
+            Stream::new(number, 0x1002)
+        });
+        let number = stream.number;
+        let mut ends = Vec::new();
+        for (queue_type, queue) in [(INPUT, &stream.input), (OUTPUT, &stream.output)] {
+            // Drops the marks, and for the input a drain.
+            add(&mut self.rng, frames::on_queue(QUEUE_CLEAR, number, queue_type));
+            let mut numbers: Vec<u32> =
+                queue.resources.iter().flatten().map(|resource| resource.number).collect();
+            let mut pool = RESOURCES;
+            self.rng.shuffle(&mut pool);
+            for resource in pool {
+                if numbers.len() < SLOTS && !numbers.contains(&resource) {
+                    numbers.push(resource);
+                    add(
+                        &mut self.rng,
+                        frames::resource_create(number, queue_type, resource, &[1], &[(0, 1)]),
+                    );
+                }
+            }
+            // The seventeenth.
+            if self.rng.percent(30) {
+                add(
+                    &mut self.rng,
+                    frames::resource_create(number, queue_type, 0x5555_5555, &[1], &[(0, 1)]),
+                );
+            }
+            self.rng.shuffle(&mut numbers);
+            for resource in numbers {
+                let timestamp = self.timestamp();
+                add(
+                    &mut self.rng,
+                    frames::resource_queue(number, queue_type, resource, timestamp, 1),
+                );
+                ends.push((queue_type, resource));
+            }
+        }
+        add(&mut self.rng, frames::frame(STREAM_DRAIN, number, 8));
+        match self.rng.below(6) {
+            0 | 1 => add(&mut self.rng, frames::frame(STREAM_DESTROY, number, 8)),
+            2 => add(&mut self.rng, frames::on_queue(QUEUE_CLEAR, number, INPUT)),
+            3 => add(&mut self.rng, frames::on_queue(QUEUE_CLEAR, number, OUTPUT)),
+            4 => {
+                self.rng.shuffle(&mut ends);
+                for (queue_type, resource) in ends {
+                    let flags = if queue_type == OUTPUT { self.rng.below(4) as u32 } else { 0 };
+                    let timestamp = self.timestamp();
+                    plan.push(Act::Finish(Report {
+                        stream: number,
+                        queue_type,
+                        resource,
+                        flags,
+                        timestamp,
+                    }));
+                }
+                plan.push(Act::Drained { stream: number });
+            }
+            _ => {}
+        }
+        plan.reverse();
+        self.plan = plan;
+    }
+
+    /// Records of a table to lend: any that are valid, with marks, holes and numbers in no order.
+    pub fn lent(&mut self) -> Device {
+        let mut device = Device::default();
+        let streams = self.rng.pick(&[10, 40, 70, 100]);
+        let resources = self.rng.pick(&[0, 10, 50, 90, 100]);
+        let queued = self.rng.pick(&[0, 30, 60, 100]);
+        let numbers = self.distinct(&STREAMS);
+        for (place, number) in device.places.iter_mut().zip(numbers) {
+            if self.rng.percent(streams) {
+                let coded_format = 0x1000 + self.rng.below(6) as u32;
+                let mut stream = Stream::new(number, coded_format);
+                stream.drain = self.rng.percent(40).then(|| self.ticket());
+                for queue_type in [QueueType::Input, QueueType::Output] {
+                    *stream.queue(queue_type) =
+                        self.lent_queue(queue_type, coded_format, resources, queued);
+                }
+                *place = Some(stream);
+            }
+        }
+        device
+    }
+
+    fn lent_queue(
+        &mut self,
+        queue_type: QueueType,
+        coded_format: u32,
+        resources: usize,
+        queued: usize,
+    ) -> Queue {
+        let (width, height) = (self.extent(), self.extent());
+        let rate = self.rng.word();
+        let numbers = self.distinct(&RESOURCES);
+        let mut queue = Queue {
+            parameters: Parameters::left_by_set(queue_type, coded_format, width, height, rate),
+            clear_in_progress: self.rng.percent(25),
+            resources: [None; SLOTS],
+        };
+        for (slot, number) in queue.resources.iter_mut().zip(numbers) {
+            if self.rng.percent(resources) {
+                let state = if self.rng.percent(queued) {
+                    State::Queued { ticket: self.ticket(), timestamp: self.timestamp() }
+                } else {
+                    self.rng.pick(&[State::Created, State::Dequeued])
+                };
+                *slot = Some(Resource { number, state });
+            }
+        }
+        queue
+    }
+
+    /// Distinct numbers in any order, mostly from the pool.
+    fn distinct(&mut self, pool: &[u32]) -> Vec<u32> {
+        let mut numbers = pool.to_vec();
+        for _ in 0..self.rng.below(8) {
+            let number = self.rng.word();
+            if !numbers.contains(&number) {
+                numbers.push(number);
+            }
+        }
+        self.rng.shuffle(&mut numbers);
+        numbers
+    }
+
+    /// A table of these records with some words behind the first 4,096, at times.
+    pub fn table(&mut self, device: &Device) -> Vec<u32> {
+        let mut table = self.garbage_table(true);
+        layout::write(device, &mut table[..WORDS]);
+        table
+    }
+
+    /// Words of any values; under 4,096 of them only where `enough` is false.
+    pub fn garbage_table(&mut self, enough: bool) -> Vec<u32> {
+        let length = match self.rng.below(6) {
+            _ if !enough => self.rng.pick(&[0, 1, 511, 2048, 4094, 4095]),
+            0 => WORDS + 1,
+            1 => WORDS + 512,
+            2 => self.rng.within(WORDS, WORDS + 600),
+            _ => WORDS,
+        };
+        (0..length).map(|_| self.rng.word()).collect()
+    }
+
+    /// Changes one word of a table; it may still be valid then.
+    pub fn spoil(&mut self, table: &mut [u32]) {
+        let block = BLOCK * self.rng.below(PLACES);
+        let queue = block + self.rng.pick(&[INPUT_AT, OUTPUT_AT]);
+        let slot = |rng: &mut Rng| queue + SLOTS_AT + SLOT * rng.below(SLOTS);
+        let odd = self.rng.pick(&ODD_WORDS);
+        match self.rng.below(8) {
+            0 => table[self.rng.below(WORDS)] = odd,
+            1 => table[self.rng.below(WORDS)] ^= 1 << self.rng.below(32),
+            2 => table[block + self.rng.below(INPUT_AT)] = odd,
+            3 => table[queue + self.rng.below(SLOTS_AT)] = odd,
+            4 => table[slot(&mut self.rng) + self.rng.below(SLOT)] = odd,
+            5 => {
+                let from = slot(&mut self.rng) + 1;
+                table[slot(&mut self.rng) + 1] = table[from];
+            }
+            6 => table[BLOCK * self.rng.below(PLACES) + 1] = table[block + 1],
+            _ => table[block + self.rng.within(TAIL_AT, BLOCK - 1)] = odd,
+        }
+    }
+
+    /// The length of an answer room: mostly enough.
+    pub fn room(&mut self, short: bool) -> usize {
+        if short {
+            self.rng.pick(&[ROOM - 1, ROOM - 1, 0, 1, 16, 128, 1024])
+        } else {
+            self.rng.pick(&[ROOM, ROOM, ROOM, ROOM + 1, 2000])
+        }
+    }
+}
+
+/// The queue that a number names; any number but the input's is taken for the output here.
+fn queue(stream: &Stream, queue_type: u32) -> &Queue {
+    if queue_type == INPUT {
+        &stream.input
+    } else {
+        &stream.output
+    }
+}

@@ -1,0 +1,274 @@
+//! The wrapper: what it hands to the archive, and what it makes of the result.
+
+#[allow(dead_code)]
+#[path = "../examples/guest/mod.rs"]
+mod guest;
+
+use std::collections::HashSet;
+use virtio_video_decoder::QueueType::{Input, Output};
+use virtio_video_decoder::{ffi, wire, Decoder, Finish, Refusal, Response};
+
+/// A device with stream 7, inputs 1 and 2 and output 1.
+fn ready() -> Decoder {
+    let mut decoder = Decoder::new();
+    let commands = [
+        guest::create(7, wire::FORMAT_VP9, "caf\u{e9}"),
+        guest::import(7, Input, 2, 1),
+        guest::import(7, Input, 1, 256),
+        guest::import(7, Output, 1, 3),
+    ];
+    for command in &commands {
+        assert_eq!(tell(&mut decoder, command), [done(0)]);
+    }
+    decoder
+}
+
+/// Tickets and responses of a command with ticket 0.
+fn tell(decoder: &mut Decoder, frame: &[u8]) -> Vec<(u32, Response)> {
+    read(decoder.command(0, frame).unwrap())
+}
+
+fn read(answers: virtio_video_decoder::Answers<'_>) -> Vec<(u32, Response)> {
+    answers.map(|a| (a.ticket, Response::from_bytes(a.response).unwrap())).collect()
+}
+
+fn done(ticket: u32) -> (u32, Response) {
+    (ticket, Response::Done { stream: 7 })
+}
+
+fn buffer(ticket: u32, timestamp: u64, flags: u32) -> (u32, Response) {
+    let stream = 7;
+    let response = Response::Buffer { stream, timestamp, flags };
+    (ticket, response)
+}
+
+fn error(code: u32) -> (u32, Response) {
+    (0, Response::Error { stream: 7, code })
+}
+
+fn finish(queue: virtio_video_decoder::QueueType, resource: u32, flags: u32) -> Finish {
+    Finish { stream: 7, queue, resource, flags, timestamp: u64::MAX }
+}
+
+#[test]
+fn a_new_device_has_a_table_of_zeros() {
+    assert_eq!(Decoder::new().table(), &[0; wire::TABLE_WORDS]);
+    assert_eq!(Decoder::default().table(), Decoder::new().table());
+}
+
+#[test]
+fn answers_carry_tickets_in_order() {
+    let mut decoder = ready();
+    let big = 0x1234_5678_9abc_def0;
+    for (ticket, resource, timestamp) in [(u32::MAX, 2, big), (5, 1, 9)] {
+        let frame = guest::queue(7, Input, resource, timestamp);
+        let answers = decoder.command(ticket, &frame).unwrap();
+        assert!(answers.as_bytes().is_empty());
+        assert_eq!(answers.count(), 0);
+    }
+    decoder.command(8, &guest::drain(7)).unwrap();
+    let mut answers = decoder.command(9, &guest::clear(7, Input)).unwrap();
+    assert_eq!(answers.as_bytes().len(), 32 + 32 + 16 + 16);
+    assert_eq!(
+        read(answers.clone()),
+        [buffer(5, 9, 1), buffer(u32::MAX, big, 1), done(8), done(9)]
+    );
+    assert_eq!(answers.by_ref().count(), 4);
+    assert_eq!(answers.next(), None);
+    assert_eq!(answers.as_bytes(), []);
+}
+
+#[test]
+fn a_finish_passes_every_field() {
+    let mut decoder = ready();
+    decoder.command(3, &guest::queue(7, Input, 1, 40)).unwrap();
+    decoder.command(4, &guest::queue(7, Output, 1, 41)).unwrap();
+    let input = read(decoder.finish(finish(Input, 1, 1)).unwrap());
+    assert_eq!(input, [buffer(3, 40, 1)]);
+    let output = read(decoder.finish(finish(Output, 1, 0)).unwrap());
+    assert_eq!(output, [buffer(4, u64::MAX, 0)]);
+}
+
+#[test]
+fn a_drain_is_answered_when_drained() {
+    let mut decoder = ready();
+    decoder.command(3, &guest::queue(7, Input, 2, 40)).unwrap();
+    decoder.command(4, &guest::queue(7, Output, 1, 0)).unwrap();
+    assert_eq!(decoder.command(5, &guest::drain(7)).unwrap().count(), 0);
+    assert_eq!(decoder.drained(7).unwrap_err(), Refusal::UnexpectedReport);
+    decoder.finish(finish(Input, 2, 0)).unwrap();
+    let last = read(decoder.finish(finish(Output, 1, wire::BUFFER_FLAG_EOS)).unwrap());
+    assert_eq!(last, [buffer(4, u64::MAX, wire::BUFFER_FLAG_EOS)]);
+    assert_eq!(read(decoder.drained(7).unwrap()), [done(5)]);
+    assert_eq!(decoder.drained(7).unwrap_err(), Refusal::UnexpectedReport);
+}
+
+#[test]
+fn parameters_are_read() {
+    let mut decoder = ready();
+    let size = (4096, 16);
+    let set = guest::set_params(7, Output, wire::FORMAT_NV12, size);
+    assert_eq!(tell(&mut decoder, &set), [done(0)]);
+    for (queue, format, (width, height)) in
+        [(Input, wire::FORMAT_VP9, (640, 480)), (Output, wire::FORMAT_NV12, size)]
+    {
+        let answers = tell(&mut decoder, &guest::get_params(7, queue));
+        let [(0, Response::Params { stream: 7, params })] = answers[..] else {
+            panic!("{answers:?}");
+        };
+        assert_eq!(params.queue_type, queue.number());
+        assert_eq!(params.format, format);
+        assert_eq!((params.width, params.height), (width, height));
+        assert_eq!(params.rate, 0);
+    }
+}
+
+#[test]
+fn guest_errors_are_answers() {
+    let mut decoder = ready();
+    let before = *decoder.table();
+    let again = guest::create(7, wire::FORMAT_VP9, "");
+    for (frame, code) in [
+        (again, wire::RESP_ERR_INVALID_STREAM_ID),
+        (guest::import(7, Input, 1, 1), wire::RESP_ERR_INVALID_RESOURCE_ID),
+        (guest::queue(7, Output, 2, 0), wire::RESP_ERR_INVALID_RESOURCE_ID),
+        (guest::import(7, Input, 3, 257), wire::RESP_ERR_INVALID_PARAMETER),
+        (guest::drain(7)[..8].repeat(2), wire::RESP_ERR_INVALID_PARAMETER),
+        (vec![0, 1, 0, 0, 7, 0, 0, 0], wire::RESP_ERR_INVALID_OPERATION),
+    ] {
+        assert_eq!(tell(&mut decoder, &frame), [error(code)]);
+        assert_eq!(decoder.table(), &before);
+    }
+}
+
+#[test]
+fn refusals_leave_the_table() {
+    let mut decoder = ready();
+    decoder.command(3, &guest::queue(7, Input, 1, 40)).unwrap();
+    let before = *decoder.table();
+    for length in 0..8 {
+        let refusal = decoder.command(1, &guest::drain(7)[..length]).unwrap_err();
+        assert_eq!(refusal, Refusal::ShortCommand);
+    }
+    for (report, refusal) in [
+        (finish(Input, 1, 4), Refusal::BadFlags),
+        (finish(Input, 1, wire::BUFFER_FLAG_EOS), Refusal::BadFlags),
+        (finish(Input, 2, 0), Refusal::UnexpectedReport),
+        (finish(Output, 1, 0), Refusal::UnexpectedReport),
+    ] {
+        assert_eq!(decoder.finish(report).unwrap_err(), refusal);
+    }
+    assert_eq!(decoder.drained(7).unwrap_err(), Refusal::UnexpectedReport);
+    assert_eq!(decoder.table(), &before);
+}
+
+#[test]
+fn words_are_the_device() {
+    let mut decoder = ready();
+    decoder.command(3, &guest::queue(7, Input, 1, 40)).unwrap();
+    let mut second = Decoder::from_words(decoder.table());
+    let mut third = decoder.clone();
+    let report = finish(Input, 1, 0);
+    let answer = read(decoder.finish(report).unwrap());
+    assert_eq!(read(second.finish(report).unwrap()), answer);
+    assert_eq!(read(third.finish(report).unwrap()), answer);
+    assert_eq!(second.table(), decoder.table());
+    decoder.reset();
+    assert_eq!(decoder.table(), Decoder::new().table());
+    assert_ne!(third.table(), decoder.table());
+}
+
+#[test]
+fn words_of_no_device_are_refused() {
+    let mut words = *ready().table();
+    words[511] = 1;
+    let mut decoder = Decoder::from_words(&words);
+    let refused = [
+        decoder.command(1, &guest::drain(7)).unwrap_err(),
+        decoder.finish(finish(Input, 1, 0)).unwrap_err(),
+        decoder.drained(7).unwrap_err(),
+    ];
+    assert_eq!(refused, [Refusal::InvalidTable; 3]);
+    assert_eq!(decoder.table(), &words);
+    decoder.reset();
+    assert_eq!(tell(&mut decoder, &guest::drain(7)), [error(0x0302)]);
+}
+
+#[test]
+fn slices_of_any_length_are_lent() {
+    let outcome = |refusal| ffi::Outcome { refusal, written: 0 };
+    let mut table = vec![0; wire::TABLE_WORDS + 1];
+    let mut room = vec![0xaa; wire::ANSWER_ROOM + 1];
+    table[wire::TABLE_WORDS] = 77;
+    let frame = guest::create(7, wire::FORMAT_MPEG2, "");
+
+    assert_eq!(ffi::fresh(&mut []), 1);
+    assert_eq!(ffi::fresh(&mut table[1..wire::TABLE_WORDS]), 1);
+    assert_eq!(ffi::command(&mut [], 1, &[], &mut []), outcome(1));
+    assert_eq!(ffi::drained(&mut table, 7, &mut []), outcome(3));
+    let short = &mut room[..wire::ANSWER_ROOM - 1];
+    assert_eq!(ffi::command(&mut table, 1, &frame, short), outcome(3));
+    assert_eq!(ffi::command(&mut table, 1, &[], &mut room), outcome(4));
+    assert_eq!(room, vec![0xaa; wire::ANSWER_ROOM + 1]);
+    // A queue type that `QueueType` does not have.
+    assert_eq!(ffi::finish(&mut table, 7, 0x102, 1, 0, 0, &mut room), outcome(5));
+
+    let created = ffi::command(&mut table, 1, &frame, &mut room);
+    assert_eq!((created.refusal, created.written), (0, 16));
+    assert_eq!(room[..16], [1, 0, 0, 0, 8, 0, 0, 0, 0, 2, 0, 0, 7, 0, 0, 0]);
+    assert!(room[16..].iter().all(|&byte| byte == 0xaa));
+    assert_eq!(table[wire::TABLE_WORDS], 77);
+}
+
+#[test]
+fn the_room_holds_the_longest_step() {
+    let mut decoder = Decoder::new();
+    tell(&mut decoder, &guest::create(7, wire::FORMAT_HEVC, ""));
+    for queue in [Input, Output] {
+        for resource in (0..16).rev() {
+            tell(&mut decoder, &guest::import(7, queue, resource, 1));
+            tell(&mut decoder, &guest::queue(7, queue, resource, resource.into()));
+        }
+    }
+    decoder.command(4, &guest::drain(7)).unwrap();
+    let answers = decoder.command(5, &guest::destroy(7)).unwrap();
+    assert_eq!(answers.as_bytes().len(), wire::ANSWER_ROOM);
+    let buffers = || (0..16).map(|n| buffer(0, n, 1));
+    let expected: Vec<_> = buffers().chain(buffers()).chain([done(4), done(5)]).collect();
+    assert_eq!(read(answers), expected);
+    assert_eq!(decoder.table(), Decoder::new().table());
+}
+
+#[test]
+fn refusals_have_numbers_and_texts() {
+    let numbers: Vec<u32> = Refusal::ALL.iter().map(|r| r.number()).collect();
+    assert_eq!(numbers, [1, 2, 3, 4, 5, 6]);
+    let texts: HashSet<String> = Refusal::ALL.iter().map(Refusal::to_string).collect();
+    assert_eq!(texts.len(), 6);
+    for refusal in Refusal::ALL {
+        assert_eq!(Refusal::from_number(refusal.number()), Some(refusal));
+        let error: Box<dyn std::error::Error> = refusal.into();
+        assert!(error.to_string().ends_with(&format!("(refusal {})", refusal.number())));
+    }
+    assert_eq!(Refusal::from_number(0), None);
+    assert_eq!(Refusal::from_number(7), None);
+}
+
+#[test]
+fn other_bytes_are_no_response() {
+    for length in [0, 7, 9, 16, 24, 120, 121] {
+        assert_eq!(Response::from_bytes(&vec![0; length]), None);
+    }
+    assert_eq!(Response::from_bytes(&[0, 2, 0, 0, 7, 0, 0, 0, 0]), None);
+    assert_eq!(Response::from_bytes(&[3, 2, 0, 0, 7, 0, 0, 0]), None);
+    assert_eq!(Response::from_bytes(&[6, 3, 0, 0, 7, 0, 0, 0]), None);
+}
+
+#[test]
+fn devices_may_cross_threads() {
+    fn check<T: Send + Sync>(_: &T) {}
+    let mut decoder = ready();
+    check(&decoder);
+    let handle = std::thread::spawn(move || tell(&mut decoder, &guest::destroy(7)));
+    assert_eq!(handle.join().unwrap(), [done(0)]);
+}
