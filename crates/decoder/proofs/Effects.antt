@@ -1,21 +1,17 @@
 -- The effect of a step, by the host's first tests and by what was served on the used words.
 use mathlib.Core.Path.{_≡_, refl, sym, ap, _∙_, subst}
-use mathlib.Core.Bool.{true, false}
 use mathlib.Core.Option.{Option, none, some}
 use mathlib.Core.List.{List, _++_}
-use Prim.Native.Nat.{ℕ, _+_, _≤_, _<_}
+use Prim.Native.Nat.{ℕ, _+_, _≤_}
 use native.Mathlib.Nat.{zero-add}
 use native.Mathlib.Omega.{arith}
 use lib.ListN.{length, take, drop, take-append-drop}
-use lib.Seq.{sets, sets-eq}
-use lib.Dec.{eqb, ltb}
-use borrow.Author.Tests.{ne-eqb, lt-ltb, le-ltb}
-use Rattle.laws.proofs.Stores.{wrote-none}
+use lib.Seq.{sets-eq}
+use borrow.Author.Tests.{ne-eqb}
 use Rattle.model.specs.Numbers.{tableWords}
-use Rattle.model.specs.Device.{Device, recordOf}
-use Rattle.model.specs.Frames.{streamId}
+use Rattle.model.specs.Device.{Device}
 use Rattle.model.specs.Answers.{bytesOf}
-use Rattle.model.specs.Steps.{Act, command, Step, streamOf, hostRefusal, step, perform}
+use Rattle.model.specs.Steps.{Act, streamOf, hostRefusal, perform}
 use Rattle.model.specs.Tables.{Effect, valid, carriedOut, effect}
 use Rattle.model.proofs.Tables.{Lent, not-refused}
 use Rattle.model.proofs.Unchanged.{writes-at-most}

@@ -43,13 +43,13 @@ pub fn command(table: &mut [u32], ticket: u32, frame: &[u8], answers: &mut [u8])
 pub fn finish(
     table: &mut [u32],
     stream: u32,
-    kind: u32,
+    queue: u32,
     resource: u32,
     flags: u32,
     timestamp: u64,
     answers: &mut [u8],
 ) -> Outcome
-    ensures { λ r. ⌜ asEffect r (now (table .exit)) (now (answers .exit)) ≡ effect layout (now (table .entry)) (finish stream kind resource flags timestamp) (now (answers .entry)) ⌝ }
+    ensures { λ r. ⌜ asEffect r (now (table .exit)) (now (answers .exit)) ≡ effect layout (now (table .entry)) (finish stream queue resource flags timestamp) (now (answers .entry)) ⌝ }
 {
     let refusal = host_refusal(table, answers.len());
     if refusal != 0 {
@@ -58,7 +58,7 @@ pub fn finish(
     steps::finish(
         &mut table[0..table::TABLE_WORDS],
         stream,
-        kind,
+        queue,
         resource,
         flags,
         timestamp,

@@ -36,15 +36,15 @@ pub extern "C" fn virtio_video_command(
 pub extern "C" fn virtio_video_finish(
     table: &mut [u32],
     stream: u32,
-    kind: u32,
+    queue: u32,
     resource: u32,
     flags: u32,
     timestamp: u64,
     answers: &mut [u8],
 ) -> Outcome
-    ensures { λ r. ⌜ asEffect r (now (table .exit)) (now (answers .exit)) ≡ effect layout (now (table .entry)) (finish stream kind resource flags timestamp) (now (answers .entry)) ⌝ }
+    ensures { λ r. ⌜ asEffect r (now (table .exit)) (now (answers .exit)) ≡ effect layout (now (table .entry)) (finish stream queue resource flags timestamp) (now (answers .entry)) ⌝ }
 {
-    entry::finish(table, stream, kind, resource, flags, timestamp, answers)
+    entry::finish(table, stream, queue, resource, flags, timestamp, answers)
 }
 
 // The back end reports that it has drained a stream: the owed answer is written to the room.

@@ -1,6 +1,6 @@
 -- Laws of little-endian fields, each over the width: of reading by `field-split`, of storing by `sets-split`, of both by `field-littleEndian`.
 use mathlib.Core.Path.{_≡_, refl, sym, ap, _∙_}
-use mathlib.Core.List.{List, [], _∷_, _++_, append-nil}
+use mathlib.Core.List.{List, [], _∷_, _++_}
 use mathlib.Core.Bool.{true}
 use Prim.Native.Nat.{ℕ, zero, suc, _+_, _*_, _/_, _%_, _^_, _≤_, _<_}
 use native.Mathlib.Nat.{add-suc, suc-add, add-zero, zero-add, mul-assoc, pow-suc, one-le-pow, mod-one, mod-eq-of-lt, mul-comm, div-one, div-div-eq-div-mul}
@@ -13,7 +13,7 @@ use lib.Seq.{getD-drop, getD-take, getD-append-add, sets}
 use Rattle.laws.specs.Lists.{allOf}
 use Rattle.laws.proofs.Tests.{both}
 use Rattle.laws.proofs.Lists.{all-getD}
-use Rattle.laws.proofs.Stores.{sets-append, part-sets}
+use Rattle.laws.proofs.Stores.{sets-append}
 use Rattle.field.specs.Field.{field, littleEndian}
 
 -- a field of a + b bytes is the field of its first a and, above it, that of the b after them
@@ -98,12 +98,3 @@ pub sets-split : (a b : ℕ) (d : List ℕ) (at n : ℕ) →
     sets (sets d at (littleEndian a (n % 256 ^ a))) (at + a) (littleEndian b (n / 256 ^ a)) ≡ sets d at (littleEndian (a + b) n)
 sets-split a b d at n =
     rw (littleEndian-mod a n, littleEndian-split a b n, ← (sets-append d at (littleEndian a n) (littleEndian b (n / 256 ^ a))), length-littleEndian a n)
-
--- a number that was stored is read back
-pub field-sets : (w : ℕ) (d : List ℕ) (at n : ℕ) → at + w ≤ length d → n < 256 ^ w → field w (sets d at (littleEndian w n)) at ≡ n
-field-sets w d at n h b =
-    let bytes = littleEndian w n in
-    let long : length bytes ≡ w = length-littleEndian w n in
-    sym (rw (add-zero at) at (field-part w (sets d at bytes) at w 0 (omega arith)))
-    ∙ ap (λ (s : List ℕ). field w s 0) (rw long at (part-sets d bytes at (omega arith)))
-    ∙ rw append-nil at (field-back w n [] b)

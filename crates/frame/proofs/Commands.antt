@@ -13,8 +13,8 @@ use Rattle.model.specs.Device.{QueueType, Stream}
 use Rattle.model.specs.Frames.{CommandLine, commandOf, wrongLength, queueNamed, commandType, inMemType, outMemType, codedFormat, queueType, planesLayout, numPlanes, entries, entryBytes, numDataSizes, formatSent, frameWidth}
 use Rattle.model.specs.Answers.{ErrorCode, invalidOperation, invalidParameter}
 use Rattle.model.specs.Replies.{Reply, Request, fail, Tests, _⇒_then_, first, forQueue}
-use Rattle.model.specs.Commands.{Surroundings, onCreate, badEntry, onCreateResource, onQueue, onDestroyAll, onClear, onGet, formatOf, onSet, onStream, onLine, onCommand}
-use Rattle.frame.specs.Frame.{goodCreation, entrySum, goodEntries, goodResource, goodSizes, goodExtent, goodSet}
+use Rattle.model.specs.Commands.{Surroundings, onCreate, badEntry, onCreateResource, onQueue, onDestroyAll, onClear, onGet, formatOf, goodExtent, onSet, onStream, onLine, onCommand}
+use Rattle.frame.specs.Frame.{goodCreation, entrySum, goodEntries, goodResource, goodSizes, goodSet}
 use Rattle.frame.specs.Meant.{errorOf}
 use Rattle.frame.specs.Rest.{restOfCreate, restOfResource, restOfQueue, restOfSet}
 
@@ -52,7 +52,7 @@ when-good c good ts e h = e ∙ first-miss c (not good) invalidParameter ts (rw 
 line-error : (around : Surroundings) (c : Request) (o : Option CommandLine) (e : ErrorCode) → errorOf o (length (c .frame)) ≡ some e → onLine around c o ≡ fail c e
 line-error around c none e h = let w : e ≡ invalidOperation = cc in rw w
 line-error around c (some l) e h =
-    decide (wrongLength (l .length) (length (c .frame)))
+    decide (wrongLength (l .rule) (length (c .frame)))
     (λ t. let s : some invalidParameter ≡ some e = rw t at h in let w : e ≡ invalidParameter = cc in rw (t, w))
     (λ t. absurd (let z : _≡_ {A = ℕ} 0 1 = let s : none ≡ some e = rw t at h in cc in omega arith))
 
@@ -60,7 +60,7 @@ line-right : (around : Surroundings) (c : Request) (o : Option CommandLine) (l :
 line-right around c none l p h = absurd (let z : _≡_ {A = ℕ} 0 1 = cc in omega arith)
 line-right around c (some k) l p h =
     let w : k ≡ l = cc in
-    decide (wrongLength (k .length) (length (c .frame)))
+    decide (wrongLength (k .rule) (length (c .frame)))
     (λ t. absurd (let z : _≡_ {A = ℕ} 0 1 = let s : some invalidParameter ≡ none = rw t at h in cc in omega arith))
     (λ t. rw t (ap (λ (x : CommandLine). onStream around c (x .command) (c .self)) w))
 
@@ -162,7 +162,7 @@ module _ (c : Request) (b : Stream) where
     queue-good g = when-good c (goodSizes (c .frame)) (restOfQueue c b q) queue-tests g
 
     pub set-tests : onSet c b ≡ first c (not (goodSet (formatOf q b) (c .frame)) ⇒ invalidParameter then restOfSet c b q)
-    unfolding onSet goodSet goodExtent
+    unfolding onSet goodSet
     set-tests =
         let f = c .frame in
         let e = invalidParameter in

@@ -1,15 +1,16 @@
--- When the frame f of a command is good, by the model's fields and in the order of its tests. proofs/Commands says which of those these are.
+-- When the frame f of a command is good, by the model's fields and in the order of its tests. A bridge between the code and the model, which
+-- proofs/Commands ties to the model's own tests: it need not be read to believe the contracts of the entries.
 use mathlib.Core.Bool.{Bool, not, _&&_}
 use mathlib.Core.List.{List}
-use Prim.Native.Nat.{ℕ, _+_, _*_, _%_, _^_}
+use Prim.Native.Nat.{ℕ, _+_, _*_, _^_}
 use lib.Dec.{ltb, eqb}
 use lib.ListN.{length, take}
 use Rattle.laws.specs.Tests.{within}
 use Rattle.laws.specs.Lists.{total}
 use Rattle.tag.specs.Tag.{goodTag, tagIn}
-use Rattle.model.specs.Numbers.{firstCoded, lastCoded}
-use Rattle.model.specs.Frames.{inMemType, outMemType, codedFormat, planesLayout, numPlanes, numEntries, entries, entryBytes, entryAddr, entryLength, numDataSizes, formatSent, frameWidth, frameHeight}
-use Rattle.model.specs.Commands.{badEntry}
+use Rattle.model.specs.Numbers.{firstCoded, lastCoded, maxPlanes}
+use Rattle.model.specs.Frames.{inMemType, outMemType, codedFormat, planesLayout, numPlanes, numEntries, entriesStart, entries, entryBytes, entryAddr, entryLength, numDataSizes, formatSent, frameWidth, frameHeight}
+use Rattle.model.specs.Commands.{badEntry, goodExtent}
 
 -- 0x0101: memory types 0, a coded format, a good tag
 unfoldable pub goodCreation : List ℕ → Bool
@@ -25,19 +26,15 @@ goodEntry e = not (eqb (entryLength e) 0) && not (ltb (2 ^ 64) (entryAddr e + en
 
 -- a sum of 1 to 256, the length that goes with it, and good entries
 unfoldable pub goodEntries : List ℕ → ℕ → Bool
-goodEntries f sum = within sum 1 256 && (eqb (length f) (88 + entryBytes * sum) && not (badEntry sum (entries f)))
+goodEntries f sum = within sum 1 256 && (eqb (length f) (entriesStart + entryBytes * sum) && not (badEntry sum (entries f)))
 
 -- 0x0104, behind the queue type: planes layout, plane count, the entries
 unfoldable pub goodResource : List ℕ → Bool
-goodResource f = within (planesLayout f) 1 2 && (within (numPlanes f) 1 8 && goodEntries f (entrySum f))
+goodResource f = within (planesLayout f) 1 2 && (within (numPlanes f) 1 maxPlanes && goodEntries f (entrySum f))
 
 -- 0x0105, behind the queue type: at most 8 sizes
 unfoldable pub goodSizes : List ℕ → Bool
-goodSizes f = not (ltb 8 (numDataSizes f))
-
--- a width or a height: 16 to 4,096, and even
-unfoldable pub goodExtent : ℕ → Bool
-goodExtent v = within v 16 4096 && eqb (v % 2) 0
+goodSizes f = not (ltb maxPlanes (numDataSizes f))
 
 -- 0x0109, behind the queue type: the queue's format, and good extents
 unfoldable pub goodSet : ℕ → List ℕ → Bool

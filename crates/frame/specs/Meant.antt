@@ -23,7 +23,7 @@ lengthOf l n = cond (wrongLength l n) (some invalidParameter) none
 
 abbrev pub errorOf : Option CommandLine → ℕ → Option ErrorCode
 errorOf none n = some invalidOperation
-errorOf (some l) n = lengthOf (l .length) n
+errorOf (some l) n = lengthOf (l .rule) n
 
 -- the queue of type 0x100 or 0x101
 abbrev pub queueMeant : Named → Option QueueType

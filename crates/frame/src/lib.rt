@@ -7,8 +7,8 @@ ghost use Rattle.laws.specs.Tests.{within};
 ghost use Rattle.laws.specs.Lists.{total};
 ghost use Rattle.tag.specs.Tag.{goodTag, tagIn};
 ghost use Rattle.model.specs.Frames.{commandOf, exactly, atLeast, queueNamed, commandType, streamId, codedFormat, queueType, resourceId, numEntries, timestampSent, frameWidth, frameHeight, frameRate};
-ghost use Rattle.model.specs.Commands.{badEntry};
-ghost use Rattle.frame.specs.Frame.{goodCreation, goodEntry, goodEntries, goodResource, goodSizes, goodExtent, goodSet};
+ghost use Rattle.model.specs.Commands.{badEntry, goodExtent};
+ghost use Rattle.frame.specs.Frame.{goodCreation, goodEntry, goodEntries, goodResource, goodSizes, goodSet};
 ghost use Rattle.frame.specs.Meant.{lengthError, lengthOf, errorOf, queueMeant};
 
 // Offsets in the payload, by the draft's structs. stream_create:
@@ -18,7 +18,7 @@ const OUT_MEM_TYPE: usize = 4;
 
 const CODED_FORMAT: usize = 8;
 
-// resource_create, resource_queue, resource_destroy_all, queue_clear, get_params and set_params; the resource is of the first two:
+// resource_create, resource_queue, resource_destroy_all, resource_queue_clear, get_params and set_params; the resource is of the first two:
 const QUEUE_TYPE: usize = 0;
 
 const RESOURCE_ID: usize = 4;

@@ -46,9 +46,6 @@ module _ {A : Type 0} where
   keep-keep p q [] = refl
   keep-keep p q (x ∷ l) = decide (q x) (λ e. simp (e, keep-keep p q l)) (λ e. simp (e, keep-keep p q l))
 
-  pub keep-none : (p : A → Bool) → ((x : A) → p x ≡ false) → (l : List A) → keep p l ≡ []
-  keep-none p h l = keep-ext p (λ x. false) h l ∙ keep-const false l
-
   pub keep-append : (p : A → Bool) (l m : List A) → keep p (l ++ m) ≡ keep p l ++ keep p m
   keep-append p [] m = refl
   keep-append p (x ∷ l) m = decide (p x) (λ e. simp (e, keep-append p l m)) (λ e. simp (e, keep-append p l m))
@@ -278,9 +275,6 @@ module _ {A : Type 0} (key : A → ℕ) (l : List A) where
       ∙ ap₂ (λ (a b : List A). a ++ b) low (above-above key k i h s)
       ∙ sym (splits-keep key (above key i) (suc i) s (splits-ascending key l))
       ∙ ap₂ (λ (a b : List A). a ++ b) here high
-
-  pub ascending-end : (k : ℕ) → keep (above key k) l ≡ [] → keep (above key k) (ascending key l) ≡ []
-  ascending-end k h = keep-ascending key (above key k) l ∙ ap (ascending key) h
 
 -- a function that leaves the key
 module _ {A B : Type 0} (f : A → B) (key : A → ℕ) (key′ : B → ℕ) (same : (x : A) → key′ (f x) ≡ key x) where

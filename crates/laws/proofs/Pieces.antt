@@ -1,13 +1,14 @@
 -- Laws of elements written one after the other in pieces of one length, and of lists by their places.
 use Prim.Native.Nat.{ℕ, zero, suc, _+_, _*_, _<_}
 use native.Mathlib.Nat.{mul-zero, mul-suc, le-of-suc-le-suc, not-suc-le-zero}
+use native.Mathlib.Numerals.{add-one}
 use native.Mathlib.Omega.{arith}
 use mathlib.Core.Path.{_≡_, refl, sym, ap, ap₂, _∙_}
 use mathlib.Core.Bool.{Bool, true, false, cond, _&&_}
 use mathlib.Core.Option.{Option, none, some}
-use mathlib.Core.List.{List, [], _∷_, _++_}
+use mathlib.Core.List.{List, [], _∷_, _++_, append-assoc, append-nil}
 use lib.ListN.{length, getD, set, take, drop, length-append, length-drop}
-use lib.Seq.{take-at, drop-at, drop-drop}
+use lib.Seq.{take-at, drop-at, drop-drop, take-suc}
 use Rattle.laws.specs.Lists.{allOf, same, position, later}
 use Rattle.laws.specs.Tests.{allBelow, first, orElse}
 use Rattle.laws.specs.Parts.{part, put, pieces, readPieces}
@@ -121,3 +122,17 @@ module _ {A : Type 0} (f : A → List ℕ) (k : ℕ) (len : (x : A) → length (
       (ap (λ (m : ℕ). same (part m k w) (f (g (part m k w)))) (sym (mul-zero k)))
       (same-pieces n (drop k w) (length-drop k w ∙ (omega arith)) ∙ all-ext _ _ n (λ i _. ap (λ (x : List ℕ). same (take k x) (f (g (take k x)))) (drop-drop (k * i) k w ∙ ap (λ (m : ℕ). drop m w) (let next : k + k * i ≡ k * suc i = omega (arith, mul-suc k i) in next))))
       ∙ sym (below-front (λ i. same (part (k * i) k w) (f (g (part (k * i) k w)))) n)
+
+-- pieces of two lists, and of one element more
+module _ {A : Type 0} (f : A → List ℕ) where
+  pub pieces-append : (l m : List A) → pieces f (l ++ m) ≡ pieces f l ++ pieces f m
+  unfolding pieces
+  pieces-append [] m = refl
+  pieces-append (x ∷ l) m = ap (λ (r : List ℕ). f x ++ r) (pieces-append l m) ∙ sym (append-assoc (f x) (pieces f l) (pieces f m))
+
+  pub pieces-one : (x : A) → pieces f (x ∷ []) ≡ f x
+  unfolding pieces
+  pieces-one x = append-nil (f x)
+
+  pub pieces-more : (l : List A) (i : ℕ) (d : A) → i < length l → pieces f (take (i + 1) l) ≡ pieces f (take i l) ++ f (getD l i d)
+  pieces-more l i d h = rw (add-one i, take-suc l i d h, pieces-append (take i l) (getD l i d ∷ []), pieces-one (getD l i d))

@@ -1,14 +1,15 @@
 -- Laws of runs of stores: two runs are one, by `sets-append`; all others follow from it and the library's `sets-eq`.
 use mathlib.Core.Path.{_≡_, refl, _∙_}
-use mathlib.Core.List.{List, [], _∷_, _++_, append-assoc}
-use Prim.Native.Nat.{ℕ, suc, _+_, _-_, _≤_}
+use mathlib.Core.List.{List, [], _∷_, _++_, append-assoc, append-nil}
+use Prim.Native.Nat.{ℕ, suc, _+_, _-_, _≤_, _<_}
 use native.Mathlib.Nat.{zero-add, add-zero, add-suc, suc-add}
+use native.Mathlib.Numerals.{add-one}
 use native.Mathlib.Omega.{arith}
-use lib.ListN.{length, take, drop, set, length-append, length-drop}
-use lib.Seq.{sets, sets-eq, length-sets, take-all, drop-drop, length-take-le}
-use Rattle.laws.specs.Parts.{part, put, zeros}
+use lib.ListN.{length, getD, take, drop, set, length-append, length-drop}
+use lib.Seq.{sets, sets-eq, length-sets, take-all, drop-drop, length-take-le, take-suc, drop-length}
+use Rattle.laws.specs.Parts.{part, put}
 use Rattle.laws.specs.Stores.{Wrote}
-use Rattle.laws.proofs.Parts.{part-mid, zero-length, zeros-append}
+use Rattle.laws.proofs.Parts.{part-mid}
 
 -- two runs of stores, one after the other, are one
 pub sets-append : (d : List ℕ) (i : ℕ) (xs ys : List ℕ) → sets (sets d i xs) (i + length xs) ys ≡ sets d i (xs ++ ys)
@@ -28,11 +29,6 @@ sets-four d i k l m a b c e x y z p q r s =
     (rw (sets-next d i l (a ++ b) c (rw length-append y))
     (rw (sets-next d i m (a ++ b ++ c) e (rw (length-append, length-append) z))
     (simp append-assoc))))
-
--- a run that is cleared, one number after the other
-pub sets-zeros : (d : List ℕ) (i n : ℕ) → set (sets d i (zeros n)) (i + n) 0 ≡ sets d i (zeros (n + 1))
-unfolding zeros
-sets-zeros d i n = rw (← zeros-append n 1) (sets-next d i n (zeros n) (zeros 1) (zero-length n))
 
 -- the rest of a list, as a part that starts in the middle
 pub rest : (k : ℕ) (s : List ℕ) → take (length s - k) (drop k s) ≡ drop k s
@@ -65,3 +61,12 @@ wrote-append {d} {at = at} xs ys p q = record {
 -- writing leaves the length
 pub wrote-length : {d e : List ℕ} {at r : ℕ} {xs : List ℕ} → Wrote d e at r xs → length e ≡ length d
 wrote-length {d} {at = at} {xs = xs} p = rw (p .whole) (length-sets d at xs)
+
+-- one more of a run of stores
+pub sets-take : (d : List ℕ) (at i : ℕ) (xs : List ℕ) → i < length xs → set (sets d at (take i xs)) (at + i) (getD xs i 0) ≡ sets d at (take (i + 1) xs)
+sets-take d at i xs h =
+    rw (add-one i, take-suc xs i 0 h) (sets-next d at i (take i xs) (getD xs i 0 ∷ []) (length-take-le i xs (omega arith)))
+
+-- a run of stores as long as the list is all that is left of it
+pub sets-whole : (d xs : List ℕ) → length xs ≡ length d → sets d 0 xs ≡ xs
+sets-whole d xs h = sets-put d xs 0 (omega arith) ∙ rw (h, drop-length d) (append-nil xs)

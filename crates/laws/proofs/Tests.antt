@@ -104,17 +104,6 @@ module _ (p : ℕ → Bool) where
   pub first-holds : (n k : ℕ) → first n p ≡ some k → p k ≡ true
   first-holds n k e = found n k e .1
 
-  -- where nothing is found, each number below the bound fails
-  pub first-missed : (n i : ℕ) → i < n → first n p ≡ none → p i ≡ false
-  first-missed n i h e = ne-true (p i) (λ t. go t (first i p) refl)
-    where
-      never : (j : ℕ) → first n p ≡ some j → ⊥
-      never j g = let z : _≡_ {A = ℕ} 0 1 = cc in omega arith
-
-      go : p i ≡ true → (r : Option ℕ) → first i p ≡ r → ⊥
-      go t none q = never i (first-found n i h q t)
-      go t (some j) q = never j (le-ind (λ (m : ℕ). first m p ≡ some j) q (λ m _ r. first-on j m r) n (omega arith))
-
 -- p holds at each number below a bound
 module _ (p : ℕ → Bool) where
   pub all-none : allBelow 0 p ≡ true

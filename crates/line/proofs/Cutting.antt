@@ -19,7 +19,7 @@ use Rattle.line.specs.Split.{before, linesIn, lineRoom, kept, lineEnd, s
 use Rattle.line.specs.Log.{onLine, lineStep, linesOutput, logOutput}
 use Rattle.line.specs.Reading.{Reader, Call, stepDone, onPiece, atEnd, start, callsOutput, usedOf, allUsed, offersIn, offers, allOffers}
 use Rattle.line.specs.Promises.{OverLong, KeptDecides, UsesSome, AnyCalls, AnyCutting}
-use Rattle.line.proofs.Stores.{pieces-append}
+use Rattle.laws.proofs.Pieces.{pieces-append}
 use Rattle.line.proofs.Frames.{over-long-hex, line-bad}
 use Rattle.line.proofs.Lines.{end-within}
 

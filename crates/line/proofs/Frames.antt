@@ -17,7 +17,7 @@ use Rattle.field.proofs.Laws.{field-part}
 use Rattle.model.specs.Steps.{command, finish, drained}
 use Rattle.line.specs.Hex.{isHex, hexBytes}
 use Rattle.line.specs.Line.{Line, step, noFrame, commandIn, finishIn, drainedIn, frameIn, lineOf, commandBytes}
-use Rattle.line.proofs.Stores.{sets-whole}
+use Rattle.laws.proofs.Stores.{sets-whole}
 use Rattle.line.proofs.Digits.{length-bytes, bytes-drop, bytes-take, hex-even}
 
 -- By the first byte

@@ -1,6 +1,5 @@
 pub mod Edges
 pub mod Examples
-pub mod Stores
 pub mod Digits
 pub mod Frames
 pub mod EveryStep

@@ -14,16 +14,17 @@ use Rattle.laws.specs.Parts.{zeros}
 use Rattle.laws.proofs.Tests.{both, and-left}
 use Rattle.laws.proofs.Lists.{decide, all-drop}
 use Rattle.laws.proofs.Parts.{zero-length}
-use Rattle.field.specs.Field.{field, littleEndian}
+use Rattle.field.specs.Field.{field}
 use Rattle.field.proofs.Laws.{field-below}
 use Rattle.model.specs.Numbers.{tableWords, answerRoom}
-use Rattle.model.specs.Answers.{Answer, response, bytesOf, answersIn, rewritten, readFrom}
+use Rattle.model.specs.Answers.{bytesOf, answersIn, rewritten, readFrom}
 use Rattle.model.specs.Steps.{Act, Step, streamOf, Outcome, perform, hostRefusal}
 use Rattle.model.specs.Steps as steps
 use Rattle.model.specs.WellFormed.{u8, u32, u64, wellFormed, goodSteps}
 use Rattle.model.specs.Tables.{Layout, Lawful, Effect, untouched, valid, carriedOut, effect, freshen, tableEntries}
 use Rattle.model.specs.Promises.{written}
 use Rattle.model.specs.Condition3.{Run}
+use Rattle.model.proofs.Condition3.{rewritten-written}
 use Rattle.model.proofs.ReadBack.{read-back}
 use Rattle.model.proofs.Isolation.{step-runs}
 use Rattle.model.proofs.Tables.{not-refused, valid-refusal, same-run}
@@ -106,11 +107,6 @@ tests words room room′ v h h′ = rw (le-ltb room answerRoom h, le-ltb room′
 pub room-free : (L : Layout) → RoomFree L
 room-free L t a room room′ h h′ = shows L t a room ∙ ap (λ (j : ℕ). showing L t a room j (eqb j 0)) (tests (length t) (length room) (length room′) (valid L t) h h′) ∙ sym (shows L t a room′)
 
--- answers, read back and written again
-again : (l : List Answer) → rewritten (map written l) ≡ bytesOf l
-again [] = refl
-again (a ∷ l) = ap (λ (r : List ℕ). littleEndian 4 (a .ticket) ++ (littleEndian 4 (length (response a)) ++ (response a ++ r))) (again l)
-
 none-whole : Whole []
 unfolding readFrom
 none-whole = refl
@@ -127,7 +123,7 @@ writes-answers L t a room m =
     let runs : steps.step d s ≡ outcome L t a room =
     step-runs d s (ap (λ (j : ℕ). eqb j 0) (sym (valid-refusal (length t) (length room) (valid L t) (lent .enough) (lent .good))) ∙ e) in
     let read = subst (λ (o : Outcome). answersIn (bytesOf (o .answers)) ≡ map written (o .answers)) runs (read-back d s well m) in
-    subst Whole (sym (ap (λ (x : Effect). take (x .written) (x .room)) (served L t a room e) ∙ answer-bytes L t a room)) (ap rewritten read ∙ again (outcome L t a room .answers)))
+    subst Whole (sym (ap (λ (x : Effect). take (x .written) (x .room)) (served L t a room e) ∙ answer-bytes L t a room)) (ap rewritten read ∙ rewritten-written (outcome L t a room .answers)))
     (λ e. subst Whole (sym (ap (λ (x : Effect). take (x .written) (x .room)) (unserved L t a room e))) none-whole)
 
 -- A whole log

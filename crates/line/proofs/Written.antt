@@ -15,7 +15,7 @@ use Rattle.model.specs.Frames.{word}
 use Rattle.model.specs.Answers.{Written, readFrom, answersIn, rewritten}
 use Rattle.line.specs.Hex.{hexPair, hexText}
 use Rattle.line.specs.Log.{answerLine, answerLines, Whole}
-use Rattle.line.proofs.Stores.{pieces-append}
+use Rattle.laws.proofs.Pieces.{pieces-append}
 use Rattle.line.proofs.Digits.{length-text, pair-length}
 
 -- The first answer in bytes that are whole answers

@@ -38,7 +38,7 @@ module _ (P : Reply → Type 0) where
 
       of-line : (l : Option CommandLine) → P (onLine around c l)
       of-line none = fails invalidOperation
-      of-line (some l) = cond-elim P (wrongLength (l .length) (length (c .frame))) (λ _. fails invalidParameter) (λ _. of-stream (l .command) (c .self) refl)
+      of-line (some l) = cond-elim P (wrongLength (l .rule) (length (c .frame))) (λ _. fails invalidParameter) (λ _. of-stream (l .command) (c .self) refl)
 
   -- refusal 5 or 6, or the answer to a Queued buffer
   pub finish-cases : (n qt r flags ts : ℕ) (self : Option Stream) → P (refuse 5 self) → P (refuse 6 self)

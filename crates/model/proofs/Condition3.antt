@@ -184,7 +184,7 @@ agrees k d l (s ∷ ss) g m =
 
 -- the bytes of a step are its answers
 
-rewritten-written : (l : List Answer) → rewritten (map written l) ≡ bytesOf l
+pub rewritten-written : (l : List Answer) → rewritten (map written l) ≡ bytesOf l
 rewritten-written [] = refl
 rewritten-written (a ∷ l) = ap (λ r. littleEndian 4 (a .ticket) ++ (littleEndian 4 (length (response a)) ++ (response a ++ r))) (rewritten-written l)
 

@@ -398,7 +398,7 @@ module _ (around : Surroundings) (n t : ℕ) (f : List ℕ) where
   -- a line, by its length
   line : (self : Option Stream) (l : CommandLine) → FitsType (l .type) n t f self (onStream around (request n t self f) (l .command) self)
       → OfLine self (l .type) (some l)
-  line self l h = cond-elim (FitsType (l .type) n t f self) (wrongLength (l .length) (length f)) (λ _. fail-type (l .type) n t f self invalidParameter) (λ _. h)
+  line self l h = cond-elim (FitsType (l .type) n t f self) (wrongLength (l .rule) (length f)) (λ _. fail-type (l .type) n t f self invalidParameter) (λ _. h)
 
   create-line : (self : Option Stream) → FitsType 0x0101 n t f self (onStream around (request n t self f) create self)
   create-line none = create-fits around n t f

@@ -55,7 +55,7 @@ unknown-quiet c = refl
 
 line-quiet : (c : Request) (l : CommandLine) → l .command ≡ create → Quiet (onLine alone c (some l))
 line-quiet c l e =
-    decide (wrongLength (l .length) (length (c .frame))) (λ w. simp w (length-quiet c)) (λ w. simp (w, e) (stream-quiet c (c .self)))
+    decide (wrongLength (l .rule) (length (c .frame))) (λ w. simp w (length-quiet c)) (λ w. simp (w, e) (stream-quiet c (c .self)))
 
 command-quiet : (c : Request) (ty : ℕ) → (eqb ty 0x0101 && tellsFull (onLine alone c (commandOf ty))) ≡ false
 command-quiet c =

@@ -40,7 +40,7 @@ StaysNone v = v .next ≡ none
 request-next : (n t : ℕ) (f : List ℕ) (l : Option CommandLine) → StaysNone (onLine crowded (record { stream = n; ticket = t; frame = f; self = none }) l)
 unfolding onCreate
 request-next n t f none = refl
-request-next n t f (some l) = cond-elim StaysNone (wrongLength (l .length) (length f)) (λ _. refl) (λ _. of (l .command))
+request-next n t f (some l) = cond-elim StaysNone (wrongLength (l .rule) (length f)) (λ _. refl) (λ _. of (l .command))
   where
     of : (x : Command) → StaysNone (onStream crowded (record { stream = n; ticket = t; frame = f; self = none }) x none)
     of create = walk StaysNone (record { stream = n; ticket = t; frame = f; self = none }) _ (λ e. refl) (λ h₁ h₂ h₃ h₄ h₅. never h₅)
@@ -82,7 +82,7 @@ SameLine ty c l = (eqb ty 0x0101 && tellsFull (onLine crowded c l)) ≡ false �
 
 line-full : (c : Request) (l : CommandLine) → (l .command ≡ create → eqb (l .type) 0x0101 ≡ true) → SameLine (l .type) c (some l)
 line-full c l is h =
-    decide (wrongLength (l .length) (length (c .frame)))
+    decide (wrongLength (l .rule) (length (c .frame)))
     (λ e. simp e)
     (λ e. simp e (stream-full c (l .command) (c .self) (λ k. simp (is k, e) at h)))
 

@@ -1,5 +1,4 @@
 pub mod TenCases
-pub mod Pins
 pub mod Slots
 pub mod Walk
 pub mod Lines

@@ -2,7 +2,7 @@
 use Prim.Native.Nat.{ℕ, _≤_}
 use native.Mathlib.Omega.{arith}
 use mathlib.Core.Path.{_≡_, refl, sym, ap, ap₂, _∙_, subst}
-use mathlib.Core.Bool.{Bool, true, false, cond}
+use mathlib.Core.Bool.{Bool, true}
 use mathlib.Core.List.{List, [], _∷_, _++_}
 use lib.ListN.{length, take, drop, length-append, length-drop}
 use lib.Seq.{take-at, drop-at}
@@ -37,11 +37,7 @@ unfolding hostRefusal
 not-refused words room v e =
     decide (ltb words tableWords) (λ w. never (sym (simp w at e))) (λ w.
     decide (ltb room answerRoom) (λ r. never (sym (simp (w, r) at e))) (λ r.
-    record { enough = ltb-false words tableWords w; spacious = ltb-false room answerRoom r; good = of v (simp (w, r) at e) }))
-  where
-    of : (x : Bool) → eqb (cond x 0 2) 0 ≡ true → x ≡ true
-    of true h = refl
-    of false h = never (sym h)
+    record { enough = ltb-false words tableWords w; spacious = ltb-false room answerRoom r; good = decide v (λ g. g) (λ g. never (sym (simp (w, r, g) at e))) }))
 
 -- of a table that is long enough and valid only the room is tested
 pub valid-refusal : (words room : ℕ) (v : Bool) → tableWords ≤ words → v ≡ true → hostRefusal words room v ≡ hostRefusal tableWords room true

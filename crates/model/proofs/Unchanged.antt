@@ -160,7 +160,7 @@ module _ (L : Layout) (t : List ℕ) (a : Act) (room : List ℕ) where
     errors : (o : Outcome) → NotAccepted device a o → o .refusal ≡ 0 → OneError t a (carriedOut L o t room)
     unfolding responseBytes littleEndian
     errors _ (numbered j z) h = never (sym (ap (λ (x : ℕ). eqb x 0) h) ∙ z)
-    errors _ (answered u f x is) h = record { ticket = u; frame = f; error = x; asked = is; count = refl; answer = refl; stays = stays }
+    errors _ (answered u f x is) h = record { ticket = u; frame = f; error = x; asked = is; sixteen = refl; answer = refl; stays = stays }
 
     shows : tableEntry L asStep it ≡ entryOf asStep outcome
     shows =

@@ -81,7 +81,7 @@ onCreateResource c b =
     noSlot s ⇒ outOfMemory then
     succeed c (some (withQueue q (withSlots (addResource r s) (queueOf q b)) b)))
 
--- the input queue
+-- whether it is the input queue
 abbrev pub isInput : QueueType → Bool
 isInput input = true
 isInput output = false
@@ -157,9 +157,13 @@ onGet c b =
     (forQueue (queueNamed (queueType (c .frame))) λ q.
     accept (reply (own c (parameters (parameterWords q b)) ∷ []) (c .self)))
 
--- a width or a height is even and from 16 to 4,096
+-- a good width or height: from 16 to 4,096, and even
+abbrev pub goodExtent : ℕ → Bool
+goodExtent v = within v 16 4096 && eqb (v % 2) 0
+
+-- a bad one: odd, or outside 16 to 4,096
 abbrev pub badExtent : ℕ → Bool
-badExtent v = not (within v 16 4096 && eqb (v % 2) 0)
+badExtent v = not (goodExtent v)
 
 -- the queue with other parameters
 abbrev pub withParameters : ℕ → ℕ → ℕ → Queue → Queue
@@ -203,7 +207,7 @@ onStream around c (live k) (some b) = onLive k c b
 -- a type without a line is an invalid operation; a wrong length is an invalid parameter
 abbrev pub onLine : Surroundings → Request → Option CommandLine → Reply
 onLine around c none = fail c invalidOperation
-onLine around c (some l) = cond (wrongLength (l .length) (length (c .frame))) (fail c invalidParameter) (onStream around c (l .command) (c .self))
+onLine around c (some l) = cond (wrongLength (l .rule) (length (c .frame))) (fail c invalidParameter) (onStream around c (l .command) (c .self))
 
 -- a command, by its type
 unfoldable pub onCommand : Surroundings → Request → Reply

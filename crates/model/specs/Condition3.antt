@@ -45,7 +45,7 @@ pub record Condition3 (run : Run) (alone : List Step → Run) : Type 0 where
   pub isolated : (n : ℕ) → anyOf outOfMemoryAt (ownEntries n (run .entries)) ≡ false
       → (ownEntries n (run .entries) ≡ alone (stepsOf (ownEntries n (run .entries))) .entries)
       × (run .held n ≡ alone (stepsOf (ownEntries n (run .entries))) .held n)
-  -- The bytes of each step are exactly the answers that are read in them, and its byte count is their number.
+  -- The bytes of each step are exactly the answers that are read in them, and its byte count is how many bytes they are.
   pub framed : Framed (run .entries)
   -- Each step writes exactly one answer to each pending answer that it pays, in order and under its ticket, and then its own.
   pub answered : AsExpected 0 [] (run .entries)
@@ -54,7 +54,8 @@ pub record Condition3 (run : Run) (alone : List Step → Run) : Type 0 where
   -- What an accepted queueing or drain is due was answered once, or is owed once.
   pub once : (before later : List Entry) (e : Entry) → run .entries ≡ before ++ e ∷ later → accepted e ≡ true → isNone (awaitedBy (e .step .act)) ≡ false
       → answersTo (length before) 0 [] (run .entries) + count (ofStep (length before)) (ledgerOf (run .entries)) ≡ 1
-  -- After an accepted destruction nothing of its stream from before it is owed; by `owes` nothing of it is held either.
+  -- After an accepted destruction nothing of its stream from before it is owed. So, by `owes`, what its record holds at the end is, apart
+  -- from step numbers, what was added after.
   pub destroyed : (before later : List Entry) (e : Entry) (t : ℕ) (f : List ℕ) → run .entries ≡ before ++ e ∷ later → e .step .act ≡ command t f
       → field 4 f 0 ≡ 0x0102 → accepted e ≡ true → keep (older (field 4 f 4) (length before)) (ledgerOf (run .entries)) ≡ []
 

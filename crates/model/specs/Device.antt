@@ -25,7 +25,7 @@ pub data Slot : Type 0 where
   free : Slot
   resource : (number : ℕ) → State → Slot
 
--- the parameters that are kept (the others follow from them), the clear-in-progress mark, the resources
+-- the parameters that are kept (the others follow from them), the clear-in-progress mark (document 01's word), the resources
 pub record Queue : Type 0 where
   pub width : ℕ
   pub height : ℕ

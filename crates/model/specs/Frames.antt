@@ -1,4 +1,5 @@
--- The guest's frames: the commands with their types and lengths, and the fields of each struct of the draft at their offsets in the frame.
+-- The guest's frames: the commands with their types and lengths, and those fields of the draft's structs that are read. Offsets count from
+-- the start of the frame, in mem_entry from the start of the entry.
 use Prim.Native.Nat.{ℕ, zero, suc, _+_}
 use mathlib.Core.Bool.{Bool, cond, not}
 use mathlib.Core.Option.{Option, none, some}
@@ -30,15 +31,15 @@ pub data Command : Type 0 where
 pub data Length : Type 0 where
   exactly atLeast : ℕ → Length
 
--- a line of the table: type, command, length
+-- a line of the table: type, command, rule of length
 pub record CommandLine : Type 0 where
   pub type : ℕ
   pub command : Command
-  pub length : Length
+  pub rule : Length
 
 -- a line as it is written below
 abbrev pub _is_ofLength_ : ℕ → Command → Length → CommandLine
-ty is c ofLength l = record { type = ty; command = c; length = l }
+ty is c ofLength l = record { type = ty; command = c; rule = l }
 
 -- the table of commands
 abbrev pub commands : List CommandLine
@@ -105,7 +106,7 @@ outMemType f = word f 12
 abbrev pub codedFormat : List ℕ → ℕ
 codedFormat f = word f 16
 
--- the queue type of resource_create, resource_queue, resource_destroy_all, queue_clear, get_params and set_params, and the resource of the first two
+-- the queue type of resource_create, resource_queue, resource_destroy_all, resource_queue_clear, get_params and set_params, and the resource of the first two
 abbrev pub queueType : List ℕ → ℕ
 queueType f = word f 8
 

@@ -44,7 +44,7 @@ Ledger = List Pending
 abbrev pub isType : ℕ → List ℕ → Bool
 isType ty f = eqb (field 4 f 0) ty
 
--- the stream number and the ticket of a step; a report has no ticket
+-- the stream number and the ticket of a step; 0 for a report, which has no ticket
 abbrev pub streamIn : Act → ℕ
 streamIn (command t f) = field 4 f 4
 streamIn (finish n qt r flags ts) = n
@@ -82,12 +82,12 @@ abbrev pub isDrain : Awaited → Bool
 isDrain (toBuffer q r ts) = false
 isDrain toDrain = true
 
--- its resource
+-- its resource; 0 for a drain, which has none
 abbrev pub resourceIn : Awaited → ℕ
 resourceIn (toBuffer q r ts) = r
 resourceIn toDrain = 0
 
--- Of its stream an accepted finish pays the answer of its queue type and resource; a drained report the drain; 0x0107 its queue's, and
+-- To pay is document 01's word. Of its stream an accepted finish pays the answer of its queue type and resource; a drained report the drain; 0x0107 its queue's, and
 -- for input the drain; 0x0102 all.
 unfoldable pub pays : Act → Awaited → Bool
 pays (command t f) w = isType 0x0102 f || (isType 0x0107 f && (isBufferOf (field 4 f 8) w || (eqb (field 4 f 8) 0x100 && isDrain w)))
@@ -110,7 +110,7 @@ awaits q p = q (p .awaited)
 unfoldable pub inOrder : List Pending → List Pending
 inOrder l = byNumber (keep (awaits (isBufferOf 0x100)) l) ++ (byNumber (keep (awaits (isBufferOf 0x101)) l) ++ keep (awaits isDrain) l)
 
--- All other steps, refused ones too, leave the ledger alone.
+-- An accepted step adds what it adds, and what it pays goes; all other steps, refused ones too, leave the ledger alone.
 abbrev pub ledgerAfter : Fed → Ledger → Ledger
 ledgerAfter s l = cond (s .accepted) (adds (s .number) (s .act) ++ keep (λ (p : Pending). not (due (s .act) p)) l) l
 
@@ -167,7 +167,7 @@ abbrev pub answersTo : ℕ → ℕ → Ledger → List Entry → ℕ
 answersTo j k l [] = 0
 answersTo j k l (e ∷ es) = count (ofStep j) (reached (answersOf e) (paid (fedOf k e) l)) + answersTo j (suc k) (ledgerAfter (fedOf k e) l) es
 
--- What is owed, apart from step numbers
+-- What is owed, in document 01's word: pending and not yet paid. Step numbers are left out.
 
 -- a ticket and what it awaits
 pub record Owed : Type 0 where

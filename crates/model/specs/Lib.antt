@@ -12,4 +12,3 @@ pub mod Promises
 pub mod Ledger
 pub mod Condition3
 pub mod Cases
-pub mod Pins

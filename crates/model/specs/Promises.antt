@@ -1,4 +1,5 @@
--- What else holds of every step and of every list of steps. Each statement is proved in proofs/.
+-- What else holds of every step and of every list of steps. Those over devices are proved in proofs/ as they stand. Those over tables are
+-- proved there of every layout, or of every lawful one (`Lawful`), and then of the one layout that is used: `Promised` in table/specs/Layout.
 use Prim.Native.Nat.{ℕ, _≤_, _<_}
 use mathlib.Core.Path.{_≡_}
 use mathlib.Core.Bool.{Bool, true, false, not, _&&_, _||_}
@@ -64,6 +65,7 @@ pub record FreshStart (L : Layout) (t : List ℕ) : Type 0 where
   pub rest : drop tableWords (freshen L t .table) ≡ drop tableWords t
   pub wordCount : length (freshen L t .table) ≡ length t
 
+-- of every table that is long enough
 abbrev pub FreshLong : Layout → Type 0
 FreshLong L = (t : List ℕ) → tableWords ≤ length t → FreshStart L t
 
@@ -78,7 +80,7 @@ pub record OneError (t : List ℕ) (a : Act) (e : Effect) : Type 0 where
   pub frame : List ℕ
   pub error : ErrorCode
   pub asked : a ≡ command ticket frame
-  pub count : e .written ≡ 16
+  pub sixteen : e .written ≡ 16
   pub answer : take (e .written) (e .room) ≡ words (ticket ∷ 8 ∷ code error ∷ streamId frame ∷ [])
   pub stays : e .table ≡ t
 

@@ -16,7 +16,7 @@ use Rattle.model.specs.Replies.{Reply}
 use Rattle.model.specs.Commands.{Surroundings, onCommand}
 use Rattle.model.specs.Reports.{onFinish, onDrained}
 
--- what a step asks, with its arguments
+-- what a step asks, with its arguments. Finish and drained are document 01's names for the two reports of the back end.
 pub data Act : Type 0 where
   command : (ticket : ℕ) (frame : List ℕ) → Act
   finish : (stream queueType resource flags timestamp : ℕ) → Act
@@ -107,11 +107,11 @@ answersOf e = answersIn (e .bytes)
 abbrev pub isError : Written → Bool
 isError w = within (word (w .response) 0) 0x0300 0x0305
 
--- accepted: the result is 0 and no error answer is written
+-- accepted, as document 01 has it: the result is 0 and no error answer is written
 unfoldable pub accepted : Entry → Bool
 accepted e = eqb (e .refusal) 0 && not (anyOf isError (answersOf e))
 
--- that number is n
+-- the owner, if there is one, is n
 abbrev pub isOwner : ℕ → Option ℕ → Bool
 isOwner n none = false
 isOwner n (some m) = eqb m n
@@ -136,6 +136,6 @@ isCreation (drained n) = false
 abbrev pub saysFull : Written → Bool
 saysFull w = eqb (word (w .response) 0) 0x0301
 
--- a creation answered 'out of memory'
+-- 'out of memory' in document 01's sense for condition 3: a creation answered 0x0301
 unfoldable pub outOfMemoryAt : Entry → Bool
 outOfMemoryAt e = isCreation (e .step .act) && anyOf saysFull (answersOf e)

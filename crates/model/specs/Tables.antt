@@ -33,7 +33,7 @@ pub record Effect : Type 0 where
 abbrev pub untouched : ℕ → List ℕ → List ℕ → Effect
 untouched k t room = record { refusal = k; written = 0; table = t; room = room }
 
--- making fresh: the result and the table
+-- making fresh, which is document 01's term: the result and the table
 pub record Freshened : Type 0 where
   pub refusal : ℕ
   pub table : List ℕ

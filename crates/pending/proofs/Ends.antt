@@ -63,16 +63,16 @@ module _ (n : ℕ) (b : Stream) where
 pub done-as : {n k r : ℕ} {v v′ : Reply} {w d e : List ℕ} → v′ ≡ v → Done n v w d e k r → Done n v′ w d e k r
 done-as {n} {k} {r} {w = w} {d = d} {e = e} is x = subst (λ v. Done n v w d e k r) (sym is) x
 
-module _ (n kind m flags ts : ℕ) (b : Stream) where
-  pub finish-flags : 3 < flags → onFinish n kind m flags ts (some b) ≡ refuse 6 (some b)
+module _ (n queue m flags ts : ℕ) (b : Stream) where
+  pub finish-flags : 3 < flags → onFinish n queue m flags ts (some b) ≡ refuse 6 (some b)
   unfolding onFinish
   finish-flags h = rw (lt-ltb 3 flags h)
 
-  pub finish-named : (q : QueueType) → flags ≤ 3 → queueNamed kind ≡ some q → onFinish n kind m flags ts (some b) ≡ finishBuffer n m flags ts b q (bufferOf m (queuedIn (queueOf q b .slots)))
+  pub finish-named : (q : QueueType) → flags ≤ 3 → queueNamed queue ≡ some q → onFinish n queue m flags ts (some b) ≡ finishBuffer n m flags ts b q (bufferOf m (queuedIn (queueOf q b .slots)))
   unfolding onFinish
   finish-named q h e = rw (le-ltb 3 flags h) (ap (finishQueue n m flags ts b) e)
 
-  pub finish-unnamed : flags ≤ 3 → queueNamed kind ≡ none → onFinish n kind m flags ts (some b) ≡ refuse 5 (some b)
+  pub finish-unnamed : flags ≤ 3 → queueNamed queue ≡ none → onFinish n queue m flags ts (some b) ≡ refuse 5 (some b)
   unfolding onFinish
   finish-unnamed h e = rw (le-ltb 3 flags h) (ap (finishQueue n m flags ts b) e)
 

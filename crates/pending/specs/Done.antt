@@ -1,4 +1,5 @@
--- What a report on a live stream's block does, and what a clear and a destroy answer and leave.
+-- What a report on a live stream's block does, and what a clear and a destroy answer and leave. A bridge between the code and the model: it
+-- need not be read to believe the contracts of the entries.
 use Prim.Native.Nat.{ℕ}
 use mathlib.Core.Path.{_≡_}
 use mathlib.Core.List.{List, [], _∷_, _++_}
@@ -14,10 +15,11 @@ pub record Done (n : ℕ) (v : Reply) (block room room′ : List ℕ) (refusal w
   pub refused : refusal ≡ v .refusal
   pub replied : Replied n v block room room′ written
 
--- the answers of a clear under the ticket t, and the record that it leaves
+-- the answers of a clear under the ticket t
 abbrev pub clearAnswers : ℕ → ℕ → QueueType → Stream → List Answer
 clearAnswers n t q b = stoppedAnswers n q (buffers q b) ++ (drainAnswers n (drainEnded q b) ++ answerTo t n success ∷ [])
 
+-- the record that it leaves
 abbrev pub clearLeaves : QueueType → Stream → Stream
 clearLeaves q b = withQueue q (cleared (queueOf q b)) (withDrain (drainLeft q b) b)
 

@@ -55,14 +55,14 @@ pub fn drained(block: &mut [u32], stream: u32, room: &mut [u8]) -> Outcome
 pub fn finish(
     block: &mut [u32],
     stream: u32,
-    kind: u32,
+    queue: u32,
     resource: u32,
     flags: u32,
     ts: u64,
     room: &mut [u8],
 ) -> Outcome
     requires { ⌜ (length (now block) ≡ 512) × (1056 ≤ length (now room)) ⌝ }
-    ensures { λ r. ⌜ ((b : Stream) → Holds stream (now (block .entry)) b → Done stream (onFinish stream kind resource flags ts (some b)) (now (block .exit)) (now (room .entry)) (now (room .exit)) (r .refusal) (r .written)) ⌝ }
+    ensures { λ r. ⌜ ((b : Stream) → Holds stream (now (block .entry)) b → Done stream (onFinish stream queue resource flags ts (some b)) (now (block .exit)) (now (room .entry)) (now (room .exit)) (r .refusal) (r .written)) ⌝ }
 {
     if ALL_FLAGS < flags {
         return Outcome {
@@ -70,14 +70,14 @@ pub fn finish(
             written: 0,
         };
     }
-    let target = stream::queue_of(kind);
-    let Target::One(queue) = target else {
+    let target = stream::queue_of(queue);
+    let Target::One(name) = target else {
         return Outcome {
             refusal: 5,
             written: 0,
         };
     };
-    finish_in(block, queue, stream, resource, flags, ts, room)
+    finish_in(block, name, stream, resource, flags, ts, room)
 }
 
 // A finish of the resource of that number in a queue.

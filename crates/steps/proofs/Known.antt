@@ -25,9 +25,9 @@ use Rattle.frame.proofs.Commands.{first-hit, first-miss, length-error, length-r
 use Rattle.stream.specs.Replied.{asked}
 use Rattle.steps.specs.Served.{Known}
 
-no-error : (l : CommandLine) (n : ℕ) → errorOf (some l) n ≡ none → wrongLength (l .length) n ≡ false
+no-error : (l : CommandLine) (n : ℕ) → errorOf (some l) n ≡ none → wrongLength (l .rule) n ≡ false
 no-error l n h =
-    decide (wrongLength (l .length) n)
+    decide (wrongLength (l .rule) n)
     (λ t. absurd (let z : _≡_ {A = ℕ} 0 1 = let s : some invalidParameter ≡ none = rw t at h in cc in omega arith))
     (λ t. t)
 
@@ -37,7 +37,7 @@ module _ {kind : ℕ} {f : List ℕ} (h : Known kind f) where
     line : commandOf kind ≡ some l
     line = ap commandOf e ∙ has
 
-    fits : wrongLength (l .length) (length f) ≡ false
+    fits : wrongLength (l .rule) (length f) ≡ false
     fits = no-error l (length f) (ap (λ (o : Option CommandLine). errorOf o (length f)) (sym line) ∙ h .long)
 
     -- its command is served

@@ -4,7 +4,7 @@ use mathlib.Core.Bool.{true}
 use mathlib.Core.Option.{Option, none, some}
 use mathlib.Core.List.{List, [], _∷_}
 use Prim.Native.Nat.{ℕ, _+_, _*_, _-_, _<_}
-use lib.ListN.{length, set}
+use lib.ListN.{length}
 use Rattle.laws.specs.Parts.{part, put}
 use Rattle.laws.specs.Lists.{allOf}
 use Rattle.laws.specs.Stores.{Wrote}

@@ -15,14 +15,14 @@ const ALL_FLAGS: u32 = 3;
 pub fn finish(
     t: &mut [u32],
     stream: u32,
-    kind: u32,
+    queue: u32,
     resource: u32,
     flags: u32,
     timestamp: u64,
     room: &mut [u8],
 ) -> Outcome
     requires { ⌜ (length (now t) ≡ 4096) × (1056 ≤ length (now room)) ⌝ }
-    ensures { λ r. ⌜ ((d : Device) → Encodes (now (t .entry)) d → Served d stream (finish stream kind resource flags timestamp) (now (t .exit)) (now (room .entry)) (now (room .exit)) (r .refusal) (r .written)) ⌝ }
+    ensures { λ r. ⌜ ((d : Device) → Encodes (now (t .entry)) d → Served d stream (finish stream queue resource flags timestamp) (now (t .exit)) (now (room .entry)) (now (room .exit)) (r .refusal) (r .written)) ⌝ }
 {
     if ALL_FLAGS < flags {
         return refused(6);
@@ -35,7 +35,7 @@ pub fn finish(
     pending::finish(
         &mut t[at..at + table::PLACE_WORDS],
         stream,
-        kind,
+        queue,
         resource,
         flags,
         timestamp,

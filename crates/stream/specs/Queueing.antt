@@ -1,4 +1,4 @@
--- A queue command between its tests.
+-- A queue command between its tests. A bridge between the code and the model: it need not be read to believe the contracts of the entries.
 use Prim.Native.Nat.{ℕ}
 use mathlib.Core.Path.{_≡_}
 use mathlib.Core.Bool.{Bool, true, false, not, _&&_, _||_}

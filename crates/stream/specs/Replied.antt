@@ -1,4 +1,5 @@
--- What a function on a live stream's block and the answer room asks for and does.
+-- What a function on a live stream's block and the answer room asks for and does. A bridge between the code and the model: it need not be
+-- read to believe the contracts of the entries.
 use Prim.Native.Nat.{ℕ}
 use mathlib.Core.Path.{_≡_}
 use mathlib.Core.Bool.{true}

@@ -1,4 +1,4 @@
--- What the answer of `queue_of` stands for.
+-- What the answer of `queue_of` stands for. A bridge between the code and the model: it need not be read to believe the contracts of the entries.
 use mathlib.Core.Option.{Option, none, some}
 use Rattle.model.specs.Device.{QueueType}
 use Rattle.table.specs.Values.{queueTypeOf}

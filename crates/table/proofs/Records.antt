@@ -15,7 +15,7 @@ use Rattle.laws.specs.Parts.{part, put, zeros, pieces, readPieces}
 use Rattle.laws.proofs.Tests.{both, and-left, and-right}
 use Rattle.laws.proofs.Lists.{all-take, all-getD}
 use Rattle.laws.proofs.Parts.{zero-length, zero-at, part-mid, put-mid, lent}
-use Rattle.laws.proofs.Pieces.{read-length, read-at}
+use Rattle.laws.proofs.Pieces.{pieces-append, read-length, read-at}
 use Rattle.model.specs.Device.{QueueType, input, output, Queue, Stream, Place, vacant, occupied, Device, queueOf, withQueue}
 use Rattle.words.specs.Words.{queueWords, decodeQueue}
 use Rattle.words.proofs.Records.{queue-length, decode-queue}
@@ -51,10 +51,6 @@ pub sized-set : (d : Device) (k : ℕ) (p : Place) → allOf sized d ≡ true �
 sized-set [] k p s h = refl
 sized-set (x ∷ d) zero p s h = both h (and-right (sized x) _ s)
 sized-set (x ∷ d) (suc k) p s h = both (and-left (sized x) _ s) (sized-set d k p (and-right (sized x) _ s) h)
-
-pub sized-with : (q : QueueType) (x : Queue) (n : ℕ) (b : Stream) → sized (occupied n b) ≡ true → length (x .slots) ≡ 16 → sized (occupied n (withQueue q x b)) ≡ true
-sized-with input x n b s h = both (eq-eqb (length (x .slots)) 16 h) (and-right (eqb (length (b .inputs .slots)) 16) _ s)
-sized-with output x n b s h = both (and-left (eqb (length (b .inputs .slots)) 16) _ s) (eq-eqb (length (x .slots)) 16 h)
 
 -- A queue in its place
 
@@ -102,11 +98,6 @@ module _ (n : ℕ) (b : Stream) (h : sized (occupied n b) ≡ true) where
         (ap₂ (λ (i : ℕ) (w : List ℕ). put i 84 w (queueWords x)) at e ∙ queue-put q x)
 
 -- A place in its device
-
-pieces-append : {A : Type 0} (f : A → List ℕ) (l m : List A) → pieces f (l ++ m) ≡ pieces f l ++ pieces f m
-unfolding pieces
-pieces-append f [] m = refl
-pieces-append f (x ∷ l) m = ap (λ (w : List ℕ). f x ++ w) (pieces-append f l m) ∙ sym (append-assoc (f x) (pieces f l) (pieces f m))
 
 pieces-cons : {A : Type 0} (f : A → List ℕ) (x : A) (l : List A) → pieces f (x ∷ l) ≡ f x ++ pieces f l
 unfolding pieces

@@ -1,4 +1,5 @@
--- The statements of specs/Layout, proved: the layout is lawful, valid is exactly the tables of well-formed devices, and condition 3 holds over tables.
+-- The statements of specs/Layout, proved: the layout is lawful, valid is exactly the tables of well-formed devices, and condition 3 and the
+-- model's other promises hold over its tables.
 use mathlib.Core.Path.{_≡_, refl, sym, ap, ap₂, _∙_}
 use mathlib.Core.Bool.{Bool, true, false, not, _&&_}
 use mathlib.Core.Option.{Option, none, some}
@@ -23,11 +24,13 @@ use Rattle.model.specs.Commands.{badExtent}
 use Rattle.model.specs.WellFormed.{u32, u64, goodSlot, goodSlots, goodQueue, goodDrain, goodPlace, wellFormed}
 use Rattle.model.specs.Tables.{valid}
 use Rattle.model.proofs.WellFormed.{well-fresh}
-use Rattle.model.proofs.Tables.{on-tables}
+use Rattle.model.proofs.Tables.{on-tables, fresh-short, fresh-long, no-mark-in-tables}
+use Rattle.model.proofs.Refusals.{only-listed, no-table-refusal}
+use Rattle.model.proofs.Unchanged.{refusal-changes-nothing, error-changes-nothing, keeps-rest, stays-valid, writes-at-most}
 use Rattle.words.specs.Words.{slotWords, flagWord, queueWords}
 use Rattle.table.specs.Blocks.{drainWords, headWords, placeWords, encode, decode}
 use Rattle.table.specs.Search.{sized}
-use Rattle.table.specs.Layout.{layout, MeetsLaws, ValidExactly, Narrow, FreshIsZero, ConditionThree}
+use Rattle.table.specs.Layout.{layout, MeetsLaws, ValidExactly, Narrow, FreshIsZero, ConditionThree, Promised}
 use Rattle.table.proofs.Records.{words-length, decode-device}
 
 -- The two laws
@@ -200,7 +203,22 @@ fresh-is-zero = vacant-zero 8
 pub zero-is-fresh : decode (zeros tableWords) ≡ fresh
 zero-is-fresh = ap decode (sym fresh-is-zero) ∙ meets-laws .back fresh well-fresh
 
--- Condition 3
+-- Over tables
 
 pub condition-three : ConditionThree
 condition-three = on-tables layout meets-laws
+
+pub promised : Promised
+promised =
+    record {
+      freshShort = fresh-short layout;
+      freshLong = fresh-long layout meets-laws;
+      refusalChangesNothing = refusal-changes-nothing layout;
+      errorChangesNothing = error-changes-nothing layout;
+      keepsRest = keeps-rest layout meets-laws;
+      staysValid = stays-valid layout meets-laws;
+      onlyListed = only-listed layout;
+      noTableRefusal = no-table-refusal layout meets-laws;
+      writesAtMost = writes-at-most layout;
+      noMarkInTables = no-mark-in-tables layout meets-laws;
+    }

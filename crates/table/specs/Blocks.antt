@@ -15,20 +15,28 @@ use Rattle.words.specs.Words.{queueSize, queueWords, decodeQueue}
 abbrev pub placeSize : ℕ
 placeSize = 512
 
+-- where a queue's words start in it
 abbrev pub queueStart : QueueType → ℕ
 queueStart input = 8
 queueStart output = 92
 
+-- the words without use behind the queues
+abbrev pub spareSize : ℕ
+spareSize = 336
+
+-- the words of a drain owed or not: 1 and its ticket, or zeros
 abbrev pub drainWords : Option ℕ → List ℕ
 drainWords none = 0 ∷ 0 ∷ []
 drainWords (some t) = 1 ∷ t ∷ []
 
+-- the first eight words of a live stream's block: live, number, coded format, drain, three without use
 unfoldable pub headWords : ℕ → ℕ → Option ℕ → List ℕ
 headWords n format drain = 1 ∷ n ∷ format ∷ (drainWords drain ++ zeros 3)
 
+-- the words of a place
 unfoldable pub placeWords : Place → List ℕ
 placeWords vacant = zeros placeSize
-placeWords (occupied n b) = headWords n (b .format) (b .draining) ++ (queueWords (b .inputs) ++ (queueWords (b .outputs) ++ zeros 336))
+placeWords (occupied n b) = headWords n (b .format) (b .draining) ++ (queueWords (b .inputs) ++ (queueWords (b .outputs) ++ zeros spareSize))
 
 -- eight blocks
 unfoldable pub encode : Device → List ℕ
@@ -36,9 +44,11 @@ encode d = pieces placeWords d
 
 -- The records that words stand for
 
+-- the ticket of an owed drain, from its two words
 abbrev pub drainIn : ℕ → ℕ → Option ℕ
 drainIn owed ticket = cond (eqb owed 1) (some ticket) none
 
+-- the place that 512 words stand for
 unfoldable pub decodePlace : List ℕ → Place
 decodePlace w =
     cond (eqb (getD w 0 0) 1)
@@ -51,5 +61,6 @@ decodePlace w =
     }))
     vacant
 
+-- the device that the words of eight blocks stand for
 unfoldable pub decode : List ℕ → Device
 decode w = readPieces decodePlace placeSize streamPlaces w

@@ -11,6 +11,7 @@ use Rattle.model.specs.Numbers.{tableWords}
 use Rattle.model.specs.Device.{Device, fresh}
 use Rattle.model.specs.WellFormed.{u32, wellFormed}
 use Rattle.model.specs.Tables.{Layout, Lawful, valid}
+use Rattle.model.specs.Promises.{FreshShort, FreshLong, RefusalChangesNothing, ErrorChangesNothing, KeepsRest, StaysValid, OnlyListed, NoTableRefusal, WritesAtMost, NoMarkInTables}
 use Rattle.model.specs.Condition3.{OnTables}
 use Rattle.table.specs.Blocks.{encode, decode}
 
@@ -22,10 +23,11 @@ layout = record { encode = encode; decode = decode }
 abbrev pub MeetsLaws : Type 0
 MeetsLaws = Lawful layout
 
--- a table is valid exactly where its used words are those of some well-formed device: no rule is missing and none is added
+-- the used words of t are those of the well-formed device d
 abbrev pub StandsFor : List ℕ → Device → Type 0
 StandsFor t d = (wellFormed d ≡ true) × (take tableWords t ≡ encode d)
 
+-- a table is valid exactly where its used words are those of some well-formed device: no rule is missing and none is added
 abbrev pub ValidExactly : Type 0
 ValidExactly = (t : List ℕ) → (valid layout t ≡ true) ↔ ((d : Device) × StandsFor t d)
 
@@ -40,3 +42,24 @@ FreshIsZero = encode fresh ≡ zeros tableWords
 -- condition 3 over the tables of this device
 abbrev pub ConditionThree : Type 0
 ConditionThree = OnTables layout
+
+-- the promises of model/specs/Promises over the tables of this device, with no layout left open
+pub record Promised : Type 0 where
+  -- a table under 4,096 words is not made fresh; any other is, and then stands for no stream
+  pub freshShort : FreshShort layout
+  pub freshLong : FreshLong layout
+  -- a refused step changes nothing; an error answer is one answer of 16 bytes, and the table stays
+  pub refusalChangesNothing : RefusalChangesNothing layout
+  pub errorChangesNothing : ErrorChangesNothing layout
+  -- the words behind the first 4,096 and the bytes behind those written stay
+  pub keepsRest : KeepsRest layout
+  -- a valid table stays valid
+  pub staysValid : StaysValid layout
+  -- each kind of step has only its own refusal numbers
+  pub onlyListed : OnlyListed layout
+  -- in a list of steps from a fresh table none is refused with 1 or 2
+  pub noTableRefusal : NoTableRefusal layout
+  -- a step writes at most 1,056 bytes
+  pub writesAtMost : WritesAtMost layout
+  -- no table that such a list reaches carries a clear-in-progress mark
+  pub noMarkInTables : NoMarkInTables layout

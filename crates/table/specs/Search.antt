@@ -8,9 +8,11 @@ use Rattle.laws.specs.Lists.{position}
 use Rattle.model.specs.Numbers.{queueSlots}
 use Rattle.model.specs.Device.{Place, vacant, occupied, Device}
 
+-- the place of that number; vacant behind the last
 abbrev pub placeAt : ℕ → Device → Place
 placeAt k d = getD d k vacant
 
+-- the place holds no stream
 abbrev pub isVacant : Place → Bool
 isVacant vacant = true
 isVacant (occupied m b) = false

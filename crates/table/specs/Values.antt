@@ -18,6 +18,7 @@ abbrev pub drainOf : Drain → Option ℕ
 drainOf (Owed t) = some t
 drainOf Settled = none
 
+-- the queue type of a queue's name
 abbrev pub queueTypeOf : QueueName → QueueType
 queueTypeOf Input = input
 queueTypeOf Output = output

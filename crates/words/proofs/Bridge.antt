@@ -9,16 +9,16 @@ use native.Mathlib.Omega.{arith}
 use lib.ListN.{length, set}
 use lib.Dec.{eqb, ltb, leb}
 use borrow.Author.Tests.{eqb-true, eq-eqb, ltb-false, le-leb}
-use Rattle.laws.specs.Lists.{keep, allOf, isEmpty, isNone, toList, later}
-use Rattle.laws.specs.Tests.{allBelow, first}
+use Rattle.laws.specs.Lists.{keep, allOf, isNone, toList, later}
+use Rattle.laws.specs.Tests.{first}
 use Rattle.laws.specs.Ascending.{below, above, insert, ascending, sorted}
 use Rattle.laws.proofs.Tests.{never, both, and-left, first-below, first-holds}
 use Rattle.laws.proofs.Lists.{decide, keep-comm, keep-ascending, ascending-next}
 use Rattle.laws.proofs.Ascending.{ascending-sorted, length-ascending}
-use Rattle.laws.proofs.Pieces.{all-places, position-first}
+use Rattle.laws.proofs.Pieces.{position-first}
 use Rattle.model.specs.Device.{State, created, queued, dequeued, Slot, free, resource, Buffer, buffer, queuedIn, byResource, bufferOf, present, noSlot, addResource, setState}
 use Rattle.model.proofs.Slots.{Distinct, isRes, queued-only}
-use Rattle.words.specs.Search.{slotAt, isFree, isResource, isQueued, numberIn, ticketIn, timestampIn, findResource, findFree, slotOfFirst, nextQueued}
+use Rattle.words.specs.Search.{slotAt, isResource, isQueued, numberIn, ticketIn, timestampIn, findResource, findFree, slotOfFirst, nextQueued}
 use Rattle.words.proofs.Least.{key, nothing-below}
 
 -- a place one further on
@@ -150,9 +150,6 @@ find-absent r (resource m p ∷ s) e = decide (eqb m r) (λ t. let z : some 0 �
 
 -- The lowest free slot
 
-pub free-inside : (k : ℕ) (s : List Slot) → findFree s ≡ some k → k < length s
-free-inside k s e = first-below (λ i. isFree (slotAt i s)) (length s) k (sym (position-first isFree free s) ∙ e)
-
 pub free-room : (k : ℕ) (s : List Slot) → findFree s ≡ some k → noSlot s ≡ false
 free-room k [] e = cc
 free-room k (free ∷ s) e = refl
@@ -170,16 +167,6 @@ free-none (free ∷ s) e = cc
 free-none (resource m p ∷ s) e = free-none s (later-none (findFree s) e)
 
 -- Whether any buffer is Queued, as a test over the places
-
-pub queued-places : (s : List Slot) → isEmpty (queuedIn s) ≡ allBelow (length s) (λ i. not (isQueued (slotAt i s)))
-queued-places s = go s ∙ all-places (λ (x : Slot). not (isQueued x)) free s
-  where
-    go : (l : List Slot) → isEmpty (queuedIn l) ≡ allOf (λ (x : Slot). not (isQueued x)) l
-    go [] = refl
-    go (free ∷ l) = go l
-    go (resource m created ∷ l) = go l
-    go (resource m (queued t ts) ∷ l) = refl
-    go (resource m dequeued ∷ l) = go l
 
 -- The next Queued buffer
 

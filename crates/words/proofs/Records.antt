@@ -3,7 +3,7 @@ use mathlib.Core.Path.{_≡_, refl, sym, ap, _∙_}
 use mathlib.Core.Bool.{Bool, true, false, not}
 use mathlib.Core.List.{List, [], _∷_, _++_}
 use Prim.Native.Nat.{ℕ, suc, _+_, _*_, _-_, _/_, _%_, _^_, _<_, _≤_}
-use native.Mathlib.Nat.{add-zero, add-sub-cancel-left}
+use native.Mathlib.Nat.{add-zero}
 use native.Mathlib.Omega.{arith}
 use lib.ListN.{length, getD, set, drop}
 use lib.Dec.{eqb}
@@ -11,7 +11,7 @@ use lib.Seq.{getD-take, getD-drop}
 use Rattle.laws.specs.Lists.{allOf}
 use Rattle.laws.specs.Parts.{part, put, pieces, readPieces}
 use Rattle.laws.proofs.Tests.{never}
-use Rattle.laws.proofs.Parts.{part-after, put-after, lent}
+use Rattle.laws.proofs.Parts.{part-after, put-after}
 use Rattle.laws.proofs.Stores.{sets-put}
 use Rattle.laws.proofs.Pieces.{pieces-length, pieces-part, pieces-put, pieces-read, read-length}
 use Rattle.model.specs.Device.{created, queued, dequeued, Slot, free, resource, Queue, withSlots}
@@ -141,15 +141,6 @@ five-stored l at a b c d e h =
 module _ (l : List ℕ) (q : Queue) (i : ℕ) (long : length l ≡ 84) (h : i < 16) (e : l ≡ queueWords q) where
   inside : i < length (q .slots)
   inside = omega (arith, held-slots l q long e)
-
-  pub slot-read : part (4 + 5 * i) (4 + 5 * i + 5 - (4 + 5 * i)) l ≡ slotWords (slotAt i (q .slots))
-  slot-read = rw (e, add-sub-cancel-left (4 + 5 * i) 5) (slot-part q i inside)
-
-  pub slot-lent : (ys : List ℕ) (s : Slot) → (part (4 + 5 * i) (4 + 5 * i + 5 - (4 + 5 * i)) l ≡ slotWords (slotAt i (q .slots)) → ys ≡ slotWords s)
-      → put (4 + 5 * i) (4 + 5 * i + 5 - (4 + 5 * i)) l ys ≡ queueWords (withSlots (set (q .slots) i s) q)
-  slot-lent ys s =
-      lent (4 + 5 * i) (4 + 5 * i + 5) 5 l (slotWords (slotAt i (q .slots))) (slotWords s) (queueWords (withSlots (set (q .slots) i s) q)) ys (omega arith)
-      (rw e (slot-part q i inside)) (rw e (slot-put q i inside s))
 
   pub slot-stored : (s : Slot) (a b c d f : ℕ) → slotWords s ≡ a ∷ b ∷ c ∷ d ∷ f ∷ []
       → set (set (set (set (set l (4 + 5 * i) a) (4 + 5 * i + 1) b) (4 + 5 * i + 2) c) (4 + 5 * i + 3) d) (4 + 5 * i + 4) f ≡ queueWords (withSlots (set (q .slots) i s) q)

@@ -13,6 +13,7 @@ abbrev pub numberOfFirst : List Buffer → Option ℕ
 numberOfFirst [] = none
 numberOfFirst (i ∷ l) = some (i .resource)
 
+-- the lowest number of the Queued buffers from `least` on
 unfoldable pub lowestQueued : ℕ → List Slot → Option ℕ
 lowestQueued least s = numberOfFirst (keep (above (λ (i : Buffer). i .resource) least) (byResource (queuedIn s)))
 

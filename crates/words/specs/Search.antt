@@ -9,9 +9,11 @@ use Rattle.laws.specs.Lists.{keep, position}
 use Rattle.laws.specs.Ascending.{above}
 use Rattle.model.specs.Device.{created, queued, dequeued, Slot, free, resource, Buffer, queuedIn, byResource}
 
+-- the slot of that place; free behind the last
 abbrev pub slotAt : ℕ → List Slot → Slot
 slotAt i s = getD s i free
 
+-- the slot holds no resource
 abbrev pub isFree : Slot → Bool
 isFree free = true
 isFree (resource m p) = false
@@ -21,6 +23,7 @@ abbrev pub isResource : ℕ → Slot → Bool
 isResource r free = false
 isResource r (resource m p) = eqb m r
 
+-- the slot holds a Queued buffer
 abbrev pub isQueued : Slot → Bool
 isQueued free = false
 isQueued (resource m created) = false

@@ -2,7 +2,6 @@
 use mathlib.Core.Path.{refl}
 use borrow.Author.Needs.{needs}
 use Rattle.laws.proofs.Tests.{and-fails, and-holds}
-use Rattle.frame.specs.Frame.{goodExtent}
 use Rattle.frame.proofs.Laws.{passed, refused}
 use Rattle.frame.proofs.extent_good.Statement.{statement}
 use Rattle.frame.proofs.extent_good.Tie as tie
@@ -11,11 +10,9 @@ in-range-requires : tie.Need-in-range-requires
 in-range-requires c κs = search needs
 
 returns : tie.Need-returns
-unfolding goodExtent
 returns c = and-fails _ _ (refused (c .before .in-range .ensures) (c .if1 .taken))
 
 returns-2 : tie.Need-returns-2
-unfolding goodExtent
 returns-2 c = and-holds _ _ _ (passed (c .before .in-range .ensures) (c .if1 .left)) refl
 
 pub extent-good-spec : {M : Type 1} → statement M

@@ -2,7 +2,8 @@
 use mathlib.Core.Path.{ap, _∙_}
 use borrow.Author.Needs.{needs}
 use Rattle.laws.proofs.Tests.{and-fails, and-holds}
-use Rattle.frame.specs.Frame.{goodExtent, goodSet}
+use Rattle.model.specs.Commands.{goodExtent}
+use Rattle.frame.specs.Frame.{goodSet}
 use Rattle.frame.proofs.Laws.{same-test, other-test, passed, refused}
 use Rattle.frame.proofs.set_good.Statement.{statement}
 use Rattle.frame.proofs.set_good.Tie as tie

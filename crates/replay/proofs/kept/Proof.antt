@@ -2,7 +2,6 @@
 use mathlib.Core.Path.{refl, sym, _∙_}
 use native.Mathlib.Omega.{arith}
 use lib.Seq.{take-all}
-use borrow.Author.Needs.{needs}
 use Rattle.replay.proofs.kept.Statement.{statement}
 use Rattle.replay.proofs.kept.Tie as tie
 

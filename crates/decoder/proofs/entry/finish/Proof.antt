@@ -30,12 +30,12 @@ part-finish-start c = search needs
 part-finish-end : tie.Need-part-finish-end
 part-finish-end c =
     let a = c .before .before .before .before .before .args in
-    table-words (a .table .now) (a .answers .now) (finish (a .stream) (a .kind) (a .resource) (a .flags) (a .timestamp)) (c .before .host-refusal .ensures) (c .if1 .left)
+    table-words (a .table .now) (a .answers .now) (finish (a .stream) (a .queue) (a .resource) (a .flags) (a .timestamp)) (c .before .host-refusal .ensures) (c .if1 .left)
 
 finish-requires : tie.Need-finish-requires
 finish-requires c κs =
     let a = c .before .before .before .before .before .before .before .args in
-    let act = finish (a .stream) (a .kind) (a .resource) (a .flags) (a .timestamp) in
+    let act = finish (a .stream) (a .queue) (a .resource) (a .flags) (a .timestamp) in
     let e = c .before .before .before .host-refusal .ensures in
     let z = c .before .before .if1 .left in
     (length-take-le 4096 (a .table .now) (table-words (a .table .now) (a .answers .now) act e z), room-bytes (a .table .now) (a .answers .now) act e z)
@@ -50,7 +50,7 @@ returns-2 : tie.Need-returns-2
 unfolding streamOf
 returns-2 c =
     let a = c .before .before .before .before .before .before .before .before .before .before .before .before .args in
-    carried (a .table .now) (a .answers .now) (finish (a .stream) (a .kind) (a .resource) (a .flags) (a .timestamp)) (c .before .before .before .before .before .before .before .before .host-refusal .ensures) (c .before .before .before .before .before .before .before .if1 .left) (a .stream) refl (c .before .before .before .before .finish .ensures)
+    carried (a .table .now) (a .answers .now) (finish (a .stream) (a .queue) (a .resource) (a .flags) (a .timestamp)) (c .before .before .before .before .before .before .before .before .host-refusal .ensures) (c .before .before .before .before .before .before .before .if1 .left) (a .stream) refl (c .before .before .before .before .finish .ensures)
 
 pub finish-spec : {M : Type 1} → statement M
 finish-spec =

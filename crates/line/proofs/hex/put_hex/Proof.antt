@@ -8,7 +8,7 @@ use lib.Seq.{sets, take-all, length-take-le}
 use Rattle.laws.specs.Parts.{pieces}
 use Rattle.laws.proofs.Stores.{sets-next}
 use Rattle.line.specs.Hex.{hexPair, hexText}
-use Rattle.line.proofs.Stores.{pieces-more}
+use Rattle.laws.proofs.Pieces.{pieces-more}
 use Rattle.line.proofs.Digits.{length-text}
 use Rattle.line.proofs.hex.put_hex.Statement.{statement}
 use Rattle.line.proofs.hex.put_hex.Tie as tie

@@ -7,7 +7,7 @@ use denote.Ref.{now}
 use lib.ListN.{length, take, length-set}
 use lib.Seq.{sets, take-all}
 use Rattle.line.specs.Hex.{hexBytes}
-use Rattle.line.proofs.Stores.{sets-take}
+use Rattle.laws.proofs.Stores.{sets-take}
 use Rattle.line.proofs.Digits.{hex-even, length-bytes}
 use Rattle.line.proofs.hex.unhex.Statement.{statement}
 use Rattle.line.proofs.hex.unhex.Tie as tie

@@ -6,7 +6,7 @@ use denote.Ref.{now}
 use lib.ListN.{length, take, length-set}
 use lib.Seq.{sets}
 use Rattle.line.specs.Split.{lineRoom}
-use Rattle.line.proofs.Stores.{sets-take}
+use Rattle.laws.proofs.Stores.{sets-take}
 use Rattle.line.proofs.Lines.{stored-most, stored-all}
 use Rattle.line.proofs.splitting.append.Statement.{statement}
 use Rattle.line.proofs.splitting.append.Tie as tie

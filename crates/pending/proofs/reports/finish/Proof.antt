@@ -35,7 +35,7 @@ same-length-2 c = search needs
 returns-3 : tie.Need-returns-3
 returns-3 c b h =
     let a = c .before .before .before .before .before .before .before .before .before .before .before .before .before .before .args in
-    done-as (finish-named (a .stream) (a .kind) (a .resource) (a .flags) (a .ts) b _ (omega arith) (named _ _ (c .before .before .before .before .before .before .before .before .before .before .queue-of .ensures) refl (c .before .before .before .before .before .before .before .before .target .given .1)))
+    done-as (finish-named (a .stream) (a .queue) (a .resource) (a .flags) (a .ts) b _ (omega arith) (named _ _ (c .before .before .before .before .before .before .before .before .before .before .queue-of .ensures) refl (c .before .before .before .before .before .before .before .before .target .given .1)))
     (c .before .before .before .before .finish-in .ensures b h)
 
 pub finish-spec : {M : Type 1} → statement M

@@ -13,7 +13,7 @@ refused-requires c κs = search needs
 returns : tie.Need-returns
 returns c d h =
     let a = c .before .before .before .before .args in
-    denied h _ (a .stream) _ 6 (c .refused .ensures) (bad-flags (around d) (a .stream) (a .kind) (a .resource) (a .flags) (a .timestamp) _ (c .before .if1 .taken))
+    denied h _ (a .stream) _ 6 (c .refused .ensures) (bad-flags (around d) (a .stream) (a .queue) (a .resource) (a .flags) (a .timestamp) _ (c .before .if1 .taken))
 
 find-stream-requires : tie.Need-find-stream-requires
 find-stream-requires c κs = search needs
@@ -33,7 +33,7 @@ same-length c = search needs
 returns-2 : tie.Need-returns-2
 returns-2 c d h =
     let a = c .before .before .before .before .before .before .before .before .args in
-    denied h _ (a .stream) _ 5 (c .refused2 .ensures) (no-stream (around d) (a .stream) (a .kind) (a .resource) (a .flags) (a .timestamp) _ (c .before .before .before .before .before .if1 .left) (was-missing h (c .before .before .before .find-stream .ensures .1) (c .before .enum-told .given .1)))
+    denied h _ (a .stream) _ 5 (c .refused2 .ensures) (no-stream (around d) (a .stream) (a .queue) (a .resource) (a .flags) (a .timestamp) _ (c .before .before .before .before .before .if1 .left) (was-missing h (c .before .before .before .find-stream .ensures .1) (c .before .enum-told .given .1)))
 
 mul-at : tie.Need-mul-at
 mul-at c = omega (arith, found-within (c .before .found .given .1) (c .before .before .before .find-stream .ensures .0))
@@ -68,7 +68,7 @@ returns-3 c d h =
     let a = c .before .before .before .before .before .before .before .before .before .before .before .before .before .before .before in
     let s = c .before .before .before .before .before .before .before .before .before .before .find-stream .ensures in
     let e = c .before .before .before .before .before .before .before .before .found .given .1 in
-    in-block h (a .pre .0) (a .args .stream) _ (found-within e (s .0)) (was-found h (s .1) _ e) (finish (a .args .stream) (a .args .kind) (a .args .resource) (a .args .flags) (a .args .timestamp))
+    in-block h (a .pre .0) (a .args .stream) _ (found-within e (s .0)) (was-found h (s .1) _ e) (finish (a .args .stream) (a .args .queue) (a .args .resource) (a .args .flags) (a .args .timestamp))
     (c .before .before .before .before .finish .ensures)
 
 pub finish-spec : {M : Type 1} → statement M

@@ -2,18 +2,22 @@
 -- says what went before on a fresh device, the step, its refusal number or 0, and the answers written, in words. The expected words
 -- come from document 01 and not from the definitions. Above each group stand the words of document 01 that its lines hold to.
 use Prim.Native.Nat.{ℕ, zero, suc, _*_}
-use mathlib.Core.Bool.{Bool, true, false, _&&_}
+use mathlib.Core.Bool.{Bool, true, false}
 use mathlib.Core.Option.{none, some}
 use mathlib.Core.List.{List, [], _∷_, _++_, map}
 use mathlib.Core.Path.{_≡_}
 use lib.ListN.{replicate, take}
 use lib.Dec.{eqb}
-use Rattle.laws.specs.Lists.{allOf, same}
+use Rattle.laws.specs.Lists.{allOf}
 use Rattle.model.specs.Device.{input, output, created, queued, dequeued, Slot, free, resource, Queue, Stream, vacant, occupied, Device, fresh}
-use Rattle.model.specs.Answers.{Answer, Response, success, bufferDone, drainDone, words, bytesOf, answersIn}
-use Rattle.model.specs.Steps.{Act, command, finish, drained, Step, Outcome, hostRefusal, step, Entry, entryOf, final, isError, accepted, belongs, outOfMemoryAt}
+use Rattle.model.specs.Answers.{Answer, Response, success, bufferDone, drainDone, words, answersIn}
+use Rattle.model.specs.Steps.{Act, command, finish, drained, Step, hostRefusal, step, Entry, entryOf, final, isError, accepted, belongs, outOfMemoryAt}
 use Rattle.model.specs.WellFormed.{wellFormed}
-use Rattle.model.specs.Cases.{Case, case, roomy, passes, ask, creating, makingResource, queueing, setting, draining, clearing, both, succeeds, failsWith}
+use Rattle.model.specs.Cases.{Line, Case, roomy, agrees, passes, ask, creating, makingResource, queueing, setting, draining, clearing, both, succeeds, failsWith}
+
+-- a line: what went before, a step, its refusal number or 0, and the bytes that it writes, in words
+abbrev pub case : List Act → Act → ℕ → List ℕ → Case
+case b a k ws = record { before = b; lines = record { act = a; refusal = k; answers = ws } ∷ [] }
 
 -- The frames, to stream 7 and under ticket 5 if nothing else is said
 
@@ -841,9 +845,7 @@ lent n a = record { act = a; room = replicate n 0 }
 
 -- a case that starts from a device, its step lent n bytes
 abbrev pub passesOn : Device → ℕ → Case → Bool
-passesOn d n c =
-    let o : Outcome = step (final d (map roomy (c .before))) (lent n (c .then)) in
-    eqb (o .refusal) (c .refusal) && same (bytesOf (o .answers)) (words (c .answers))
+passesOn d n c = allOf (λ (l : Line). agrees l (step (final d (map roomy (c .before))) (lent n (l .act)))) (c .lines)
 
 -- Refusal 3: "answer buffer under 1,056 bytes", before 4, 5 and 6, and also for a step that would write less or nothing: lent 1,055 bytes
 abbrev pub shortRooms : List Case

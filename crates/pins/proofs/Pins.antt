@@ -6,15 +6,15 @@ use Rattle.laws.specs.Ascending.{insert, below, above}
 use Rattle.field.specs.Field.{field, littleEndian}
 use Rattle.tag.specs.Utf8.{classOf, utf8After, utf8}
 use Rattle.tag.specs.Tag.{nulAt, goodTag}
 use Rattle.model.specs.Device.{fresh, put}
 use Rattle.model.specs.Frames.{commandOf, queueNamed}
 use Rattle.model.specs.Answers.{responseBytes, readFrom}
 use Rattle.model.specs.Replies.{first}
 use Rattle.model.specs.Commands.{onCreate, onDestroy, onDrain, onCreateResource, onQueue, onDestroyAll, onClear, parameterWords, onGet, onSet, onCommand}
 use Rattle.model.specs.Reports.{onFinish, onDrained}
 use Rattle.model.specs.Steps.{streamOf, serve, hostRefusal, step, accepted, ownerOf, belongs, outOfMemoryAt}
 use Rattle.model.specs.WellFormed.{u32, u64, wellFormed}
-use Rattle.model.specs.Pins.{Records, Entries, Told, Rules, Pins}
+use Rattle.pins.specs.Pins.{Records, Entries, Told, Rules, Pins}
 
 pub record-pins : Records
 unfolding within same insert below above field littleEndian classOf utf8After utf8 nulAt goodTag fresh put commandOf queueNamed responseBytes first onCreate onDestroy onDrain onCreateResource onQueue onDestroyAll onClear parameterWords onGet onSet onCommand onFinish onDrained streamOf serve hostRefusal step
