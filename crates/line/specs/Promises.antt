@@ -1,4 +1,5 @@
--- What holds of lines and of logs. Each statement is proved in proofs/.
+-- What holds of lines and of logs. Each statement is proved in proofs/, `ShowsEntries` and the examples over every layout that meets the two laws;
+-- crates/replay closes them over this device's.
 use Prim.Native.Nat.{ℕ, _≤_, _<_}
 use mathlib.Core.Path.{_≡_}
 use mathlib.Core.Bool.{Bool, true}
@@ -19,7 +20,7 @@ use Rattle.line.specs.Reading.{start, callsOutput, allUsed, allOffers}
 
 -- Lines
 
--- a line of more than 8,378 digits is no frame
+-- a line of more than 8,378 bytes is no frame
 abbrev pub OverLong : Type 0
 OverLong = (line : List ℕ) → 8378 < length line → lineOf line ≡ noFrame
 

@@ -1,17 +1,17 @@
--- The log over the table's own layout.
+-- What is promised of a whole log, over the table's own layout.
 use Rattle.table.specs.Layout.{layout}
 use Rattle.table.proofs.Theorems.{meets-laws}
-use Rattle.line.specs.Promises.{AnyCutting, ShowsEntries}
-use Rattle.line.specs.Examples.{Examples}
-use Rattle.line.proofs.Cutting.{any-cutting}
-use Rattle.line.proofs.Shown.{shows-entries}
+use Rattle.line.proofs.Cutting.{any-calls, any-cutting}
+use Rattle.line.proofs.Shown.{room-free, writes-answers, shows-entries}
 use Rattle.line.proofs.Examples.{examples}
+use Rattle.replay.specs.Promised.{Promised}
 
-pub log-cut : AnyCutting layout
-log-cut = any-cutting layout
-
-pub log-entries : ShowsEntries layout
-log-entries = shows-entries layout meets-laws
-
-pub log-examples : Examples layout
-log-examples = examples layout meets-laws
+pub promised : Promised
+promised = record {
+  anyCutting = any-cutting layout;
+  anyCalls = any-calls layout;
+  roomFree = room-free layout;
+  writesAnswers = writes-answers layout;
+  showsEntries = shows-entries layout meets-laws;
+  examples = examples layout meets-laws;
+}
