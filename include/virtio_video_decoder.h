@@ -30,8 +30,6 @@ extern "C" {
 #define VIRTIO_VIDEO_F_RESOURCE_GUEST_PAGES	0
 /* The device can use non-contiguous memory for video buffers */
 #define VIRTIO_VIDEO_F_RESOURCE_NON_CONTIG	1
-/* Objects of other devices can be used for video buffers: not offered here */
-#define VIRTIO_VIDEO_F_RESOURCE_VIRTIO_OBJECT	2
 
 /*
  * Numbers on the wire. They are little-endian, as are the machines that the core is built
@@ -122,8 +120,7 @@ enum virtio_video_format {
  */
 
 enum virtio_video_mem_type {
-	VIRTIO_VIDEO_MEM_TYPE_GUEST_PAGES = 0,
-	VIRTIO_VIDEO_MEM_TYPE_VIRTIO_OBJECT = 1,	/* not taken */
+	VIRTIO_VIDEO_MEM_TYPE_GUEST_PAGES = 0,	/* no other is taken */
 };
 
 /* VIRTIO_VIDEO_CMD_STREAM_CREATE, answered by a header */
@@ -206,11 +203,6 @@ struct virtio_video_resource_queue {
 enum virtio_video_buffer_flag {
 	VIRTIO_VIDEO_BUFFER_FLAG_ERR = 0x0001,	/* failed, or stopped */
 	VIRTIO_VIDEO_BUFFER_FLAG_EOS = 0x0002,	/* last output of a drain */
-
-	/* Encoder only, refused here */
-	VIRTIO_VIDEO_BUFFER_FLAG_IFRAME = 0x0004,
-	VIRTIO_VIDEO_BUFFER_FLAG_PFRAME = 0x0008,
-	VIRTIO_VIDEO_BUFFER_FLAG_BFRAME = 0x0010,
 };
 
 /* A buffer's answer; its type is VIRTIO_VIDEO_RESP_OK_NODATA */

@@ -312,8 +312,8 @@ static void decoding(void)
 	       "0c000000 18000000 00020000 07000000 e803000000000000 00000000 00000000");
 	finish("input 5 is done, told twice", INPUT, 5, 0, 77,
 	       VIRTIO_VIDEO_REFUSAL_UNEXPECTED_REPORT, "");
-	finish("output 5 is done, with a flag for encoders", OUTPUT, 5,
-	       VIRTIO_VIDEO_BUFFER_FLAG_IFRAME, 1000, VIRTIO_VIDEO_REFUSAL_BAD_FLAGS, "");
+	finish("output 5 is done, with a flag that there is not", OUTPUT, 5, 4, 1000,
+	       VIRTIO_VIDEO_REFUSAL_BAD_FLAGS, "");
 	finish("output 5 is done, EOS without a drain", OUTPUT, 5, VIRTIO_VIDEO_BUFFER_FLAG_EOS,
 	       1000, VIRTIO_VIDEO_REFUSAL_BAD_FLAGS, "");
 	finish("output 5 is done", OUTPUT, 5, 0, 1000, 0,

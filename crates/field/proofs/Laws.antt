@@ -5,7 +5,7 @@ use mathlib.Core.Bool.{true}
 use Prim.Native.Nat.{ℕ, zero, suc, _+_, _*_, _/_, _%_, _^_, _≤_, _<_}
 use native.Mathlib.Nat.{add-suc, suc-add, add-zero, zero-add, mul-assoc, pow-suc, one-le-pow, mod-one, mod-eq-of-lt, mul-comm, div-one, div-div-eq-div-mul}
 use native.Mathlib.Omega.{arith}
-use lib.ListN.{length, getD, take, drop, List·getD-append}
+use lib.ListN.{length, getD, take, drop}
 use lib.Dec.{ltb, lit<}
 use borrow.Author.Tests.{ltb-true, lt-ltb}
 use lib.Arith.{mod-mul, digits-mod, digits-div}
@@ -37,16 +37,11 @@ field-part (suc w) s k n at h =
     let h₂ : suc at + w ≤ n = omega arith in
     rw (field-part w s k n (suc at) h₂, add-suc k at, getD-take n (drop k s) at 0 h₁, getD-drop k s at 0)
 
--- a field of what follows p, and of what stands before t
+-- a field of what follows p
 pub field-after : (w : ℕ) (p s : List ℕ) (at : ℕ) → field w (p ++ s) (length p + at) ≡ field w s at
 unfolding field
 field-after zero p s at = refl
 field-after (suc w) p s at = rw (getD-append-add p s at 0, ← add-suc (length p) at, field-after w p s (suc at))
-
-pub field-before : (w : ℕ) (s t : List ℕ) (at : ℕ) → at + w ≤ length s → field w (s ++ t) at ≡ field w s at
-unfolding field
-field-before zero s t at h = refl
-field-before (suc w) s t at h = rw (List·getD-append s t 0 at (omega arith), field-before w s t (suc at) (omega arith))
 
 -- a field of bytes is below 256 ^ w
 pub field-below : (w : ℕ) (s : List ℕ) (at : ℕ) → allOf (λ b. ltb b 256) s ≡ true → field w s at < 256 ^ w

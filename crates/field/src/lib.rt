@@ -6,7 +6,7 @@ ghost use lib.Seq.{sets};
 ghost use Rattle.field.specs.Field.{field, littleEndian};
 
 // The number in the 2 bytes from `at`.
-pub fn read_u16(part: &[u8], at: usize) -> u16
+fn read_u16(part: &[u8], at: usize) -> u16
     requires { ⌜ at + 2 ≤ length (now part) ⌝ }
     ensures { λ r. ⌜ r ≡ field 2 (now (part .entry)) at ⌝ }
 {
@@ -39,7 +39,7 @@ pub fn payload_u32(frame: &[u8], at: usize) -> u32
 }
 
 // Stores `n` in the 2 bytes from `at`.
-pub fn put_u16(out: &mut [u8], at: usize, n: u16)
+fn put_u16(out: &mut [u8], at: usize, n: u16)
     requires { ⌜ at + 2 ≤ length (now out) ⌝ }
     ensures { λ _. ⌜ now (out .exit) ≡ sets (now (out .entry)) at (littleEndian 2 n) ⌝ }
 {

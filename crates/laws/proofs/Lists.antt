@@ -292,10 +292,6 @@ module _ {A B : Type 0} (f : A → B) (key : A → ℕ) (key′ : B → ℕ) (sa
         map-keep (above key (key x)) (above key′ (key x)) (λ y. ap (λ n. not (ltb n (key x))) (same y)) l,
       )
 
-  pub map-ascending : (l : List A) → map f (ascending key l) ≡ ascending key′ (map f l)
-  map-ascending [] = refl
-  map-ascending (x ∷ l) = map-insert x (ascending key l) ∙ ap (insert key′ (f x)) (map-ascending l)
-
 -- what passes p passes q once f is done to it
 pub all-map : {A B : Type 0} (p : A → Bool) (q : B → Bool) (f : A → B) → ((x : A) → p x ≡ true → q (f x) ≡ true) → (l : List A) → allOf p l ≡ true → allOf q (map f l) ≡ true
 all-map p q f h [] k = refl

@@ -1,10 +1,9 @@
 -- Laws of parts and of blocks of one length. Each is stated over the offset and the length.
 use mathlib.Core.Path.{_≡_}
 use mathlib.Core.List.{List, _++_, append-assoc}
-use Prim.Native.Nat.{ℕ, _+_, _-_, _<_, _≤_}
-use native.Mathlib.Omega.{arith}
-use lib.ListN.{length, getD, drop, length-replicate, getD-replicate, replicate-append-replicate, length-drop}
-use lib.Seq.{take-at, drop-at, take-append-le, drop-append-le, take-append-add, drop-append-add}
+use Prim.Native.Nat.{ℕ, _+_, _-_, _<_}
+use lib.ListN.{length, getD, length-replicate, getD-replicate, replicate-append-replicate}
+use lib.Seq.{take-at, drop-at, take-append-add, drop-append-add}
 use Rattle.laws.specs.Parts.{part, put, zeros}
 
 -- Zeros.
@@ -34,20 +33,6 @@ put-after p l a b n ys h = rw (← h) (rw (take-append-add, drop-append-add, app
 
 pub part-after : (p l : List ℕ) (a b n : ℕ) → length p ≡ a → part (a + b) n (p ++ l) ≡ part b n l
 part-after p l a b n h = rw (← h) (rw drop-append-add)
-
--- A part of what stands before a tail.
-module _ (l t : List ℕ) (a n : ℕ) (h : a + n ≤ length l) where
-  drop-inner : n ≤ length (drop a l)
-  drop-inner = simp length-drop (omega arith)
-
-  start : a ≤ length l
-  start = omega arith
-
-  pub part-before : part a n (l ++ t) ≡ part a n l
-  part-before = rw (drop-append-le a l t start, take-append-le n (drop a l) t drop-inner)
-
-  pub put-before : (ys : List ℕ) → put a n (l ++ t) ys ≡ put a n l ys ++ t
-  put-before ys = rw (take-append-le a l t start, drop-append-le a l t start, drop-append-le n (drop a l) t drop-inner) (simp append-assoc)
 
 -- The k words from a to e are lent, and come back as r: what the borrower says of the part it got, where that was p, and what the lender
 -- then has.

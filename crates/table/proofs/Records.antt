@@ -3,7 +3,7 @@ use mathlib.Core.Path.{_≡_, refl, sym, ap, ap₂, _∙_}
 use mathlib.Core.Bool.{true, false}
 use mathlib.Core.Option.{Option, none, some}
 use mathlib.Core.List.{List, [], _∷_, _++_, append-assoc}
-use Prim.Native.Nat.{ℕ, zero, suc, _+_, _*_, _-_, _<_}
+use Prim.Native.Nat.{ℕ, suc, _+_, _*_, _-_, _<_}
 use native.Mathlib.Nat.{mul-zero, mul-suc, add-sub-cancel-left}
 use native.Mathlib.Omega.{arith}
 use lib.ListN.{length, getD, set, take, drop, length-append}
@@ -46,11 +46,6 @@ place-length (occupied n b) h =
 -- a place of sized ones is sized, and they stay so with another sized one
 pub place-sized : (d : Device) (k : ℕ) → allOf sized d ≡ true → sized (placeAt k d) ≡ true
 place-sized d k s = all-getD sized d k vacant refl s
-
-pub sized-set : (d : Device) (k : ℕ) (p : Place) → allOf sized d ≡ true → sized p ≡ true → allOf sized (set d k p) ≡ true
-sized-set [] k p s h = refl
-sized-set (x ∷ d) zero p s h = both h (and-right (sized x) _ s)
-sized-set (x ∷ d) (suc k) p s h = both (and-left (sized x) _ s) (sized-set d k p (and-right (sized x) _ s) h)
 
 -- A queue in its place
 

@@ -23,12 +23,6 @@ module _ (f : Slot → Slot) where
   unfolding upTo
   up-none s = refl
 
-  pub up-length : (i : ℕ) (s : List Slot) → length (upTo i s) ≡ length s
-  unfolding upTo
-  up-length zero s = refl
-  up-length (suc i) [] = refl
-  up-length (suc i) (x ∷ s) = ap suc (up-length i s)
-
   -- the slot at i is not changed yet
   pub up-at : (i : ℕ) (s : List Slot) → slotAt i (upTo i s) ≡ slotAt i s
   unfolding upTo
