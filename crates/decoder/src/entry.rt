@@ -27,10 +27,10 @@ pub fn command(table: &mut [u32], ticket: u32, frame: &[u8], answers: &mut [u8])
 {
     let refusal = host_refusal(table, answers.len());
     if refusal != 0 {
-        return refused(refusal);
+        return steps::refused(refusal);
     }
     if frame.len() < HEADER {
-        return refused(SHORT_COMMAND);
+        return steps::refused(SHORT_COMMAND);
     }
     let written = steps::command(&mut table[0..table::TABLE_WORDS], ticket, frame, answers);
     Outcome {
@@ -53,7 +53,7 @@ pub fn finish(
 {
     let refusal = host_refusal(table, answers.len());
     if refusal != 0 {
-        return refused(refusal);
+        return steps::refused(refusal);
     }
     steps::finish(
         &mut table[0..table::TABLE_WORDS],
@@ -72,7 +72,7 @@ pub fn drained(table: &mut [u32], stream: u32, answers: &mut [u8]) -> Outcome
 {
     let refusal = host_refusal(table, answers.len());
     if refusal != 0 {
-        return refused(refusal);
+        return steps::refused(refusal);
     }
     steps::drained(&mut table[0..table::TABLE_WORDS], stream, answers)
 }
@@ -91,14 +91,4 @@ fn host_refusal(table: &[u32], room: usize) -> u32
         return INVALID_TABLE;
     }
     0
-}
-
-// A refusal: nothing is written.
-fn refused(number: u32) -> Outcome
-    ensures { λ r. ⌜ (r .refusal ≡ number) × (r .written ≡ 0) ⌝ }
-{
-    Outcome {
-        refusal: number,
-        written: 0,
-    }
 }

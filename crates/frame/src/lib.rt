@@ -11,6 +11,31 @@ ghost use Rattle.model.specs.Commands.{badEntry, goodExtent};
 ghost use Rattle.frame.specs.Frame.{goodCreation, goodEntry, goodEntries, goodResource, goodSizes, goodSet};
 ghost use Rattle.frame.specs.Meant.{lengthError, lengthOf, errorOf, queueMeant};
 
+// The types of the commands.
+pub const CREATE: u32 = 0x0101;
+
+pub const DESTROY: u32 = 0x0102;
+
+pub const DRAIN: u32 = 0x0103;
+
+pub const CREATE_RESOURCE: u32 = 0x0104;
+
+pub const QUEUE_RESOURCE: u32 = 0x0105;
+
+pub const DESTROY_ALL: u32 = 0x0106;
+
+pub const CLEAR: u32 = 0x0107;
+
+pub const GET_PARAMETERS: u32 = 0x0108;
+
+pub const SET_PARAMETERS: u32 = 0x0109;
+
+pub const QUERY_CONTROL: u32 = 0x010A;
+
+pub const GET_CONTROL: u32 = 0x010B;
+
+pub const SET_CONTROL: u32 = 0x010C;
+
 // Offsets in the payload, by the draft's structs. stream_create:
 const IN_MEM_TYPE: usize = 0;
 
@@ -63,18 +88,18 @@ pub fn length_check(kind: u32, len: usize) -> Length
     ensures { λ r. ⌜ lengthError r ≡ errorOf (commandOf kind) len ⌝ }
 {
     match kind {
-        0x0101 => exact(len, 88),
-        0x0102 => exact(len, 8),
-        0x0103 => exact(len, 8),
-        0x0104 => least(len, 88),
-        0x0105 => exact(len, 64),
-        0x0106 => exact(len, 16),
-        0x0107 => exact(len, 16),
-        0x0108 => exact(len, 16),
-        0x0109 => exact(len, 120),
-        0x010A => exact(len, 16),
-        0x010B => exact(len, 16),
-        0x010C => least(len, 16),
+        CREATE => exact(len, 88),
+        DESTROY => exact(len, 8),
+        DRAIN => exact(len, 8),
+        CREATE_RESOURCE => least(len, 88),
+        QUEUE_RESOURCE => exact(len, 64),
+        DESTROY_ALL => exact(len, 16),
+        CLEAR => exact(len, 16),
+        GET_PARAMETERS => exact(len, 16),
+        SET_PARAMETERS => exact(len, 120),
+        QUERY_CONTROL => exact(len, 16),
+        GET_CONTROL => exact(len, 16),
+        SET_CONTROL => least(len, 16),
         _ => Length::Unknown,
     }
 }

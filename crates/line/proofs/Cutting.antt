@@ -17,7 +17,7 @@ use Rattle.line.specs.Hex.{isHex}
 use Rattle.line.specs.Line.{Line, lineOf}
 use Rattle.line.specs.Split.{before, linesIn, lineRoom, kept, lineEnd, split}
 use Rattle.line.specs.Log.{onLine, lineStep, linesOutput, logOutput}
-use Rattle.line.specs.Reading.{Reader, Call, stepDone, onPiece, atEnd, start, callsOutput, usedOf, allUsed, offersIn, offers, allOffers}
+use Rattle.line.specs.Reading.{Reader, Call, stepDone, onPiece, lastStep, atEnd, start, callsOutput, usedOf, allUsed, offersIn, offers, allOffers}
 use Rattle.line.specs.Promises.{OverLong, KeptDecides, UsesSome, AnyCalls, AnyCutting}
 use Rattle.laws.proofs.Pieces.{pieces-append}
 use Rattle.line.proofs.Frames.{over-long-hex, line-bad}
@@ -135,11 +135,11 @@ kept-none = refl
 
 module _ (L : Layout) (t : List ℕ) where
   end-empty : atEnd L (record { table = t; line = kept [] }) ≡ linesOutput L t []
-  unfolding atEnd kept linesOutput
+  unfolding lastStep kept linesOutput
   end-empty = refl
 
   end-line : (b : ℕ) (l : List ℕ) → atEnd L (record { table = t; line = kept (b ∷ l) }) ≡ linesOutput L t ((b ∷ l) ∷ [])
-  unfolding atEnd kept linesOutput lineStep
+  unfolding lastStep kept linesOutput lineStep
   end-line b l = ap (λ (x : Line). onLine L t x .output) (kept-decides (b ∷ l)) ∙ sym (append-nil (onLine L t (lineOf (b ∷ l)) .output))
 
 module _ (L : Layout) where

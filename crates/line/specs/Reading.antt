@@ -34,8 +34,12 @@ module _ (L : Layout) where
   onPiece r piece = onSplit (r .table) (split (r .line) piece)
 
   -- the last line is stepped where the log ends, unless it is empty
-  unfoldable pub atEnd : Reader → List ℕ
-  atEnd r = cond (isEmpty (r .line)) [] (lineStep L (r .table) (r .line) .output)
+  unfoldable pub lastStep : Reader → Logged
+  lastStep r = cond (isEmpty (r .line)) (record { output = []; table = r .table }) (lineStep L (r .table) (r .line))
+
+  -- what is written then
+  abbrev pub atEnd : Reader → List ℕ
+  atEnd r = lastStep r .output
 
   -- a fresh table, and no line begun
   abbrev pub start : Reader

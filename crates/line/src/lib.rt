@@ -5,6 +5,7 @@ mod splitting;
 mod writing;
 
 pub use decoding::decode;
+pub use splitting::LINE_ROOM;
 pub use splitting::gather;
 pub use writing::put_outcome;
 pub use writing::put_refusal;

@@ -8,7 +8,7 @@ use crate::Gathered;
 use crate::NEWLINE;
 
 // The bytes that are kept of a line: the digits of the longest frame, and one more, which shows that the line is over-long.
-const LINE_ROOM: usize = 8379;
+pub const LINE_ROOM: usize = 8379;
 
 // Takes the bytes of a piece up to its first byte 10, or all, behind the `have` bytes of `held` that are kept of the line.
 pub fn gather(held: &mut [u8], have: usize, piece: &[u8]) -> Gathered

@@ -7,7 +7,7 @@ use Prim.Native.Nat.{ℕ, _+_, _<_, _≤_}
 use native.Mathlib.Omega.{arith}
 use native.Mathlib.Numerals.{add-one}
 use lib.ListN.{length, set, length-append}
-use borrow.Author.Tests.{lt-ltb, le-ltb, lt-leb, le-leb}
+use borrow.Author.Tests.{le-ltb, lt-leb, le-leb}
 use Rattle.laws.specs.Stores.{Wrote}
 use Rattle.laws.specs.Lists.{keep, isEmpty}
 use Rattle.laws.specs.Ascending.{above}
@@ -64,10 +64,6 @@ pub done-as : {n k r : ℕ} {v v′ : Reply} {w d e : List ℕ} → v′ ≡ v �
 done-as {n} {k} {r} {w = w} {d = d} {e = e} is x = subst (λ v. Done n v w d e k r) (sym is) x
 
 module _ (n queue m flags ts : ℕ) (b : Stream) where
-  pub finish-flags : 3 < flags → onFinish n queue m flags ts (some b) ≡ refuse 6 (some b)
-  unfolding onFinish
-  finish-flags h = rw (lt-ltb 3 flags h)
-
   pub finish-named : (q : QueueType) → flags ≤ 3 → queueNamed queue ≡ some q → onFinish n queue m flags ts (some b) ≡ finishBuffer n m flags ts b q (bufferOf m (queuedIn (queueOf q b .slots)))
   unfolding onFinish
   finish-named q h e = rw (le-ltb 3 flags h) (ap (finishQueue n m flags ts b) e)

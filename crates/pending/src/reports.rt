@@ -19,10 +19,8 @@ use table::QueueName;
 use words::Found;
 use words::QUEUE_WORDS;
 
-// The flag of the end of a stream, and all the flags there are.
+// The flag of the end of a stream.
 const EOS: u32 = 2;
-
-const ALL_FLAGS: u32 = 3;
 
 // A drained report: an owed drain is answered where no input is Queued.
 pub fn drained(block: &mut [u32], stream: u32, room: &mut [u8]) -> Outcome
@@ -51,7 +49,7 @@ pub fn drained(block: &mut [u32], stream: u32, room: &mut [u8]) -> Outcome
     }
 }
 
-// A finish report: a Queued buffer is answered and becomes Dequeued.
+// A finish report whose flags are known: a Queued buffer is answered and becomes Dequeued.
 pub fn finish(
     block: &mut [u32],
     stream: u32,
@@ -61,15 +59,9 @@ pub fn finish(
     ts: u64,
     room: &mut [u8],
 ) -> Outcome
-    requires { ⌜ (length (now block) ≡ 512) × (1056 ≤ length (now room)) ⌝ }
+    requires { ⌜ (length (now block) ≡ 512) × (flags ≤ 3) × (1056 ≤ length (now room)) ⌝ }
     ensures { λ r. ⌜ ((b : Stream) → Holds stream (now (block .entry)) b → Done stream (onFinish stream queue resource flags ts (some b)) (now (block .exit)) (now (room .entry)) (now (room .exit)) (r .refusal) (r .written)) ⌝ }
 {
-    if ALL_FLAGS < flags {
-        return Outcome {
-            refusal: 6,
-            written: 0,
-        };
-    }
     let target = stream::queue_of(queue);
     let Target::One(name) = target else {
         return Outcome {

@@ -21,10 +21,10 @@ use Rattle.model.proofs.Unchanged.{writes-at-most}
 use Rattle.table.specs.Layout.{layout}
 use Rattle.line.specs.Line.{Line, step, refused, lineOf}
 use Rattle.line.specs.Split.{Split, split}
-use Rattle.line.specs.Reading.{Reader, Call, onSplit, onPiece, atEnd}
+use Rattle.line.specs.Reading.{Reader, Call, onSplit, onPiece, lastStep}
 use Rattle.line.specs.Log.{Logged, refusalLine, Whole, shown, lineStep}
 use Rattle.line.specs.Promises.{goodLine}
-use Rattle.replay.specs.Fed.{Did}
+use Rattle.replay.specs.Fed.{Logs, Did}
 use Rattle.replay.specs.declared.Fed.{Fed}
 use Rattle.line.proofs.Cutting.{uses-some}
 use Rattle.line.proofs.Shown.{steps-are-good, writes-answers, line-step, line-refused}
@@ -54,16 +54,16 @@ module _ (L : Layout) (t line room : List ℕ) (a : Act) (is : lineOf line ≡ s
       subst (λ (x : Effect). Whole (take (x .written) (x .room))) (sym e)
       (writes-answers L t a room (subst (λ (l : Line). goodLine l ≡ true) is (steps-are-good line)))
 
-  pub logged : {out out′ : List ℕ} {r : ℕ} → Wrote out out′ 0 r (shown refusal (take written room′)) → Wrote out out′ 0 r (lineStep L t line .output) × (t′ ≡ lineStep L t line .table)
+  pub logged : {out out′ : List ℕ} {r : ℕ} → Wrote out out′ 0 r (shown refusal (take written room′)) → Logs (lineStep L t line) r t′ out out′
   logged {out} {out′} {r} w =
-      subst (λ (x : Logged). Wrote out out′ 0 r (x .output) × (t′ ≡ x .table))
+      subst (λ (x : Logged). Logs x r t′ out out′)
       (ap (λ (x : Effect). record { output = shown (x .refusal) (take (x .written) (x .room)); table = x .table }) e ∙ sym (line-step L t line room a is long))
-      (w, refl)
+      (record { wrote = w; table = refl })
 
 -- a line that is refused
 pub logged-refused : (L : Layout) (t line : List ℕ) (k : ℕ) {out out′ : List ℕ} {r : ℕ} → lineOf line ≡ refused k → Wrote out out′ 0 r (refusalLine k)
-    → Wrote out out′ 0 r (lineStep L t line .output) × (t ≡ lineStep L t line .table)
-logged-refused L t line k {out} {out′} {r} e w = subst (λ (x : Logged). Wrote out out′ 0 r (x .output) × (t ≡ x .table)) (sym (line-refused L t line k e)) (w, refl)
+    → Logs (lineStep L t line) r t out out′
+logged-refused L t line k {out} {out′} {r} e w = subst (λ (x : Logged). Logs x r t out out′) (sym (line-refused L t line k e)) (record { wrote = w; table = refl })
 
 -- A call on a piece
 
@@ -77,35 +77,36 @@ module _ (L : Layout) (t line piece held out : List ℕ) (ended : Bool) (used ha
       (record { used = refl; wrote = wrote-none out 0; table = refl; line = refl })
 
   -- it has, and was stepped
-  pub call-ended : {out′ t′ : List ℕ} {n : ℕ} → ended ≡ true → Wrote out out′ 0 n (lineStep L t (take have held) .output) × (t′ ≡ lineStep L t (take have held) .table)
+  pub call-ended : {out′ t′ : List ℕ} {n : ℕ} → ended ≡ true → Logs (lineStep L t (take have held)) n t′ out out′
       → Did (onPiece L (record { table = t; line = line }) piece) (record { used = used; have = 0; written = n }) t′ held out out′
   unfolding onPiece
   call-ended {out′} {t′} {n} f w =
       subst (λ (s : Split). Did (onSplit L t s) (record { used = used; have = 0; written = n }) t′ held out out′)
       (ap (λ (b : Bool). record { ended = b; used = used; line = take have held }) (sym f) ∙ e)
-      (record { used = refl; wrote = w .0; table = w .1; line = refl })
+      (record { used = refl; wrote = w .wrote; table = w .table; line = refl })
 
 -- The end of the log
 
 module _ (L : Layout) (t held : List ℕ) (have : ℕ) where
-  pub end-empty : {out : List ℕ} → have ≡ 0 → Wrote out out 0 0 (atEnd L (record { table = t; line = take have held }))
-  unfolding atEnd
-  end-empty {out} e = rw e (wrote-none out 0)
+  pub end-empty : {out : List ℕ} → have ≡ 0 → Logs (lastStep L (record { table = t; line = take have held })) 0 t out out
+  unfolding lastStep
+  end-empty {out} e = rw e (record { wrote = wrote-none out 0; table = refl })
 
-  pub end-line : {out out′ : List ℕ} {n : ℕ} → (have ≡ 0 → ⊥) → have ≤ length held → Wrote out out′ 0 n (lineStep L t (take have held) .output) → Wrote out out′ 0 n (atEnd L (record { table = t; line = take have held }))
-  unfolding atEnd
-  end-line {out} {out′} {n} ne h w = rw (not-empty (take have held) (λ z. ne (sym (length-take-le have held h) ∙ z))) w
+  pub end-line : {out out′ t′ : List ℕ} {n : ℕ} → (have ≡ 0 → ⊥) → have ≤ length held → Logs (lineStep L t (take have held)) n t′ out out′
+      → Logs (lastStep L (record { table = t; line = take have held })) n t′ out out′
+  unfolding lastStep
+  end-line ne h w = rw (not-empty (take have held) (λ z. ne (sym (length-take-le have held h) ∙ z))) w
     where
       not-empty : (l : List ℕ) → (length l ≡ 0 → ⊥) → isEmpty l ≡ false
       not-empty [] f = absurd (f refl)
       not-empty (x ∷ l) f = refl
 
--- the same call, and the same output, by equal ones
+-- the same call, and the same step, by an equal one
 pub as-call : {c d : Call} {r : Fed} {t held out out′ : List ℕ} → c ≡ d → Did c r t held out out′ → Did d r t held out out′
 as-call {r = r} {t} {held} {out} {out′} e x = subst (λ (y : Call). Did y r t held out out′) e x
 
-pub as-output : {d e : List ℕ} {r : ℕ} {xs ys : List ℕ} → xs ≡ ys → Wrote d e 0 r xs → Wrote d e 0 r ys
-as-output {d} {e} {r} p x = subst (λ (s : List ℕ). Wrote d e 0 r s) p x
+pub as-logged : {s u : Logged} {r : ℕ} {t out out′ : List ℕ} → s ≡ u → Logs s r t out out′ → Logs u r t out out′
+as-logged {r = r} {t} {out} {out′} e x = subst (λ (y : Logged). Logs y r t out out′) e x
 
 -- a call uses no more than its piece has, and a byte or more where it has any
 cond-used : (b : Bool) (x y : Call) (n : ℕ) → x .used ≡ n → y .used ≡ n → cond b x y .used ≡ n

@@ -3,16 +3,14 @@ ghost use mathlib.Core.Path.{_≡_};
 ghost use mathlib.Core.List.{List};
 ghost use Prim.Native.Nat.{ℕ, _<_, _≤_};
 ghost use lib.ListN.{length, take};
-ghost use Rattle.laws.specs.Stores.{Wrote};
 ghost use Rattle.table.specs.Layout.{layout};
 ghost use Rattle.line.specs.Split.{lineRoom};
-ghost use Rattle.line.specs.Reading.{onPiece, atEnd};
-ghost use Rattle.replay.specs.Fed.{Did};
+ghost use Rattle.line.specs.Log.{lineStep};
+ghost use Rattle.line.specs.Reading.{onPiece, lastStep};
+ghost use Rattle.replay.specs.Fed.{Logs, Did};
+use line::LINE_ROOM;
 
 mod lines;
-
-// The bytes that are kept of a line that has not ended.
-const LINE_ROOM: usize = 8379;
 
 // What a call on a piece did: the bytes used of it, the bytes kept of the line that has not ended, the bytes written.
 pub struct Fed {
@@ -46,14 +44,22 @@ pub fn feed(
     )
 }
 
-// Steps the last line where the log ends without byte 10, unless it is empty; returns the bytes written.
-pub fn finish(table: &mut [u32], held: &[u8; 8379], have: usize, out: &mut [u8; 2112]) -> usize
+// Steps a line, without its byte 10, on the table, and writes its lines from the start of `out`; returns the place after them.
+pub fn log_line(table: &mut [u32], line: &[u8], out: &mut [u8; 2112]) -> usize
     ensures fits { λ r. ⌜ r ≤ length (now (out .exit)) ⌝ }
-    ensures means { λ r. ⌜ Wrote (now (out .entry)) (now (out .exit)) 0 r (atEnd layout (record { table = now (table .entry); line = take have (now (held .entry)) })) ⌝ }
+    ensures means { λ r. ⌜ Logs (lineStep layout (now (table .entry)) (now (line .entry))) r (now (table .exit)) (now (out .entry)) (now (out .exit)) ⌝ }
 {
     let mut frame = [0u8; 4184];
     let mut answers = [0u8; 1056];
-    lines::finish(table, held, kept(have), &mut frame, &mut answers, out)
+    lines::log_line(table, line, &mut frame, &mut answers, out)
+}
+
+// Steps the last line where the log ends without byte 10, unless it is empty; returns the bytes written.
+pub fn finish(table: &mut [u32], held: &[u8; 8379], have: usize, out: &mut [u8; 2112]) -> usize
+    ensures fits { λ r. ⌜ r ≤ length (now (out .exit)) ⌝ }
+    ensures means { λ r. ⌜ Logs (lastStep layout (record { table = now (table .entry); line = take have (now (held .entry)) })) r (now (table .exit)) (now (out .entry)) (now (out .exit)) ⌝ }
+{
+    lines::finish(table, held, kept(have), out)
 }
 
 // No more is kept than there is room for.

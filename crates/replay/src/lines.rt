@@ -2,15 +2,14 @@
 ghost use mathlib.Core.Path.{_≡_};
 ghost use Prim.Native.Nat.{_≤_};
 ghost use lib.ListN.{length, take};
-ghost use Rattle.laws.specs.Stores.{Wrote};
 ghost use Rattle.model.specs.Tables.{effect};
 ghost use Rattle.table.specs.Layout.{layout};
 ghost use Rattle.decoder.specs.Entry.{asEffect};
 ghost use Rattle.line.specs.Line.{framed, countIn};
 ghost use Rattle.line.specs.Split.{lineRoom};
 ghost use Rattle.line.specs.Log.{lineStep};
-ghost use Rattle.line.specs.Reading.{onPiece, atEnd};
-ghost use Rattle.replay.specs.Fed.{Did};
+ghost use Rattle.line.specs.Reading.{onPiece, lastStep};
+ghost use Rattle.replay.specs.Fed.{Logs, Did};
 use crate::Fed;
 use line::Decoded;
 use line::Frame;
@@ -52,27 +51,20 @@ pub fn feed(
 }
 
 // Steps the last line where the log ends without byte 10, unless it is empty.
-pub fn finish(
-    table: &mut [u32],
-    held: &[u8],
-    have: usize,
-    frame: &mut [u8],
-    answers: &mut [u8],
-    out: &mut [u8],
-) -> usize
-    requires { ⌜ (have ≤ length (now held)) × (4184 ≤ length (now frame)) × (1056 ≤ length (now answers)) × (2112 ≤ length (now out)) ⌝ }
-    ensures fits { λ r. ⌜ r ≤ length (now (out .entry)) ⌝ }
-    ensures means { λ r. ⌜ Wrote (now (out .entry)) (now (out .exit)) 0 r (atEnd layout (record { table = now (table .entry); line = take have (now (held .entry)) })) ⌝ }
+pub fn finish(table: &mut [u32], held: &[u8], have: usize, out: &mut [u8; 2112]) -> usize
+    requires { ⌜ have ≤ length (now held) ⌝ }
+    ensures fits { λ r. ⌜ r ≤ length (now (out .exit)) ⌝ }
+    ensures means { λ r. ⌜ Logs (lastStep layout (record { table = now (table .entry); line = take have (now (held .entry)) })) r (now (table .exit)) (now (out .entry)) (now (out .exit)) ⌝ }
 {
     if have == 0 {
         return 0;
     }
-    log_line(table, &held[..have], frame, answers, out)
+    crate::log_line(table, &held[..have], out)
 }
 
 // Steps a line on the table and writes its lines from the start of `out`; returns the place after them. `frame` and `answers` are lent for
 // the while: a command's bytes, and the answers as the step writes them.
-fn log_line(
+pub fn log_line(
     table: &mut [u32],
     line: &[u8],
     frame: &mut [u8],
@@ -81,8 +73,7 @@ fn log_line(
 ) -> usize
     requires { ⌜ (4184 ≤ length (now frame)) × (1056 ≤ length (now answers)) × (2112 ≤ length (now out)) ⌝ }
     ensures fits { λ r. ⌜ r ≤ length (now (out .entry)) ⌝ }
-    ensures output { λ r. ⌜ Wrote (now (out .entry)) (now (out .exit)) 0 r (lineStep layout (now (table .entry)) (now (line .entry)) .output) ⌝ }
-    ensures table { λ _. ⌜ now (table .exit) ≡ lineStep layout (now (table .entry)) (now (line .entry)) .table ⌝ }
+    ensures means { λ r. ⌜ Logs (lineStep layout (now (table .entry)) (now (line .entry))) r (now (table .exit)) (now (out .entry)) (now (out .exit)) ⌝ }
 {
     let decoded = line::decode(line, frame);
     let Decoded::Framed(found) = decoded else {

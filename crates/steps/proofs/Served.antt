@@ -116,10 +116,10 @@ pub of-stream : {d : Device} {n m : ℕ} {a : Act} {left room room′ : List ℕ
 of-stream {d} {a = a} {left} {room} {room′} {refusal} {written} e x = subst (λ (k : ℕ). Served d k a left room room′ refusal written) e x
 
 -- a command's reply has no refusal number
-pub told : {n : ℕ} {block room room′ : List ℕ} {written : ℕ} (around : Surroundings) (b : Stream) (t : ℕ) (f : List ℕ)
+pub answered : {n : ℕ} {block room room′ : List ℕ} {written : ℕ} (around : Surroundings) (b : Stream) (t : ℕ) (f : List ℕ)
     → Replied n (serve around n (some b) (command t f)) block room room′ written → Done n (serve around n (some b) (command t f)) block room room′ 0 written
 unfolding serve
-told {n} around b t f x = record { refused = sym (command-answers around (asked n t f b)); replied = x }
+answered {n} around b t f x = record { refused = sym (command-answers around (asked n t f b)); replied = x }
 
 -- a place that a search found is within its bound
 pub found-within : {r : Found} {k n : ℕ} → r ≡ At k → Within r n → k < n

@@ -15,27 +15,17 @@ use answer::INVALID_STREAM;
 use answer::OK;
 use answer::OUT_OF_MEMORY;
 use answer::UNSUPPORTED_CONTROL;
+use frame::CLEAR;
+use frame::CREATE;
+use frame::CREATE_RESOURCE;
+use frame::DESTROY;
+use frame::DESTROY_ALL;
+use frame::DRAIN;
+use frame::GET_PARAMETERS;
 use frame::Length;
+use frame::QUEUE_RESOURCE;
+use frame::SET_PARAMETERS;
 use words::Found;
-
-// The types of the commands.
-const CREATE: u32 = 0x0101;
-
-const DESTROY: u32 = 0x0102;
-
-const DRAIN: u32 = 0x0103;
-
-const CREATE_RESOURCE: u32 = 0x0104;
-
-const QUEUE_RESOURCE: u32 = 0x0105;
-
-const DESTROY_ALL: u32 = 0x0106;
-
-const CLEAR: u32 = 0x0107;
-
-const GET_PARAMETERS: u32 = 0x0108;
-
-const SET_PARAMETERS: u32 = 0x0109;
 
 // A command with a whole header: the type, the length, and then the command itself.
 pub fn command(t: &mut [u32], ticket: u32, frame: &[u8], room: &mut [u8]) -> usize

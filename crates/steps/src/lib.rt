@@ -5,3 +5,4 @@ mod reports;
 pub use commands::command;
 pub use reports::drained;
 pub use reports::finish;
+pub use reports::refused;

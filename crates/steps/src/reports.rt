@@ -8,10 +8,10 @@ ghost use Rattle.steps.specs.Served.{Encodes, Served};
 use pending::Outcome;
 use words::Found;
 
-// The flags that a finish may have: ERR and EOS.
+// All the flags there are: ERR and EOS.
 const ALL_FLAGS: u32 = 3;
 
-// A finish report. Of a stream that is not live only the flags are tested before its refusal.
+// A finish report: the flags, then the stream.
 pub fn finish(
     t: &mut [u32],
     stream: u32,
@@ -57,7 +57,7 @@ pub fn drained(t: &mut [u32], stream: u32, room: &mut [u8]) -> Outcome
 }
 
 // A refusal: nothing is written.
-fn refused(number: u32) -> Outcome
+pub fn refused(number: u32) -> Outcome
     ensures { λ r. ⌜ (r .refusal ≡ number) × (r .written ≡ 0) ⌝ }
 {
     Outcome {

@@ -89,7 +89,7 @@ const RESOURCES: [u32; 24] = [
     0xffff_ffff,
 ];
 /// What a word of a frame or a table may be damaged to.
-const ODD_WORDS: [u32; 32] = [
+pub const ODD_WORDS: [u32; 32] = [
     0,
     1,
     2,

@@ -1,15 +1,12 @@
--- `pending::finish` meets its contract: by the flags and the queue that the report names.
+-- `pending::finish` meets its contract: by the queue that the report names.
 use mathlib.Core.Path.{refl}
 use native.Mathlib.Omega.{arith}
 use borrow.Author.Needs.{needs}
 use Rattle.stream.specs.declared.Target.the-variants.{Neither}
 use Rattle.stream.proofs.Tested.{named}
-use Rattle.pending.proofs.Ends.{refused-done, done-as, finish-flags, finish-named, finish-unnamed}
+use Rattle.pending.proofs.Ends.{refused-done, done-as, finish-named, finish-unnamed}
 use Rattle.pending.proofs.reports.finish.Statement.{statement}
 use Rattle.pending.proofs.reports.finish.Tie as tie
-
-returns : tie.Need-returns
-returns c b h = refused-done h (finish-flags _ _ _ _ _ b (omega arith))
 
 queue-of-requires : tie.Need-queue-of-requires
 queue-of-requires c κs = search needs
@@ -20,8 +17,8 @@ enum-known-target c = search needs
 enum-told : tie.Need-enum-told
 enum-told c = search needs
 
-returns-2 : tie.Need-returns-2
-returns-2 c b h = refused-done h (finish-unnamed _ _ _ _ _ b (omega arith) (named _ Neither (c .before .before .queue-of .ensures) refl (c .enum-told .given .1)))
+returns : tie.Need-returns
+returns c b h = refused-done h (finish-unnamed _ _ _ _ _ b (omega arith) (named _ Neither (c .before .before .queue-of .ensures) refl (c .enum-told .given .1)))
 
 finish-in-requires : tie.Need-finish-in-requires
 finish-in-requires c κs = search needs
@@ -32,9 +29,9 @@ same-length c = search needs
 same-length-2 : tie.Need-same-length-2
 same-length-2 c = search needs
 
-returns-3 : tie.Need-returns-3
-returns-3 c b h =
-    let a = c .before .before .before .before .before .before .before .before .before .before .before .before .before .before .args in
+returns-2 : tie.Need-returns-2
+returns-2 c b h =
+    let a = c .before .before .before .before .before .before .before .before .before .before .before .before .before .args in
     done-as (finish-named (a .stream) (a .queue) (a .resource) (a .flags) (a .ts) b _ (omega arith) (named _ _ (c .before .before .before .before .before .before .before .before .before .before .queue-of .ensures) refl (c .before .before .before .before .before .before .before .before .target .given .1)))
     (c .before .before .before .before .finish-in .ensures b h)
 
@@ -42,12 +39,11 @@ pub finish-spec : {M : Type 1} → statement M
 finish-spec =
     tie.close
     (tie.spec
-    returns
     queue-of-requires
     enum-known-target
     enum-told
-    returns-2
+    returns
     finish-in-requires
     same-length
     same-length-2
-    returns-3)
+    returns-2)

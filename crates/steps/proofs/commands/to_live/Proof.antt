@@ -3,7 +3,7 @@ use native.Mathlib.Omega.{arith}
 use Rattle.model.specs.Answers.{invalidStream}
 use Rattle.model.specs.Steps.{command, around}
 use Rattle.steps.proofs.Known.{not-live}
-use Rattle.steps.proofs.Served.{failed, in-block, found-within, was-found, was-missing, told}
+use Rattle.steps.proofs.Served.{failed, in-block, found-within, was-found, was-missing, answered}
 use borrow.Author.Needs.{needs}
 use Rattle.steps.proofs.commands.to_live.Statement.{statement}
 use Rattle.steps.proofs.commands.to_live.Tie as tie
@@ -66,7 +66,7 @@ returns-2 c d h =
     let s = c .before .before .before .before .before .before .before .before .before .before .find-stream .ensures in
     let e = c .before .before .before .before .before .before .before .before .found .given .1 in
     in-block h (a .pre .0) (a .args .stream) _ (found-within e (s .0)) (was-found h (s .1) _ e) (command (a .args .ticket) (a .args .frame .now))
-    (λ b x. told (around d) b (a .args .ticket) (a .args .frame .now) (c .before .before .before .before .live .ensures (around d) b x))
+    (λ b x. answered (around d) b (a .args .ticket) (a .args .frame .now) (c .before .before .before .before .live .ensures (around d) b x))
 
 pub to-live-spec : {M : Type 1} → statement M
 to-live-spec =

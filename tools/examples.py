@@ -1,5 +1,5 @@
 #!/usr/bin/env python3
-"""Writes the example logs and what they are to be answered with.
+"""Writes examples/: the logs and what they are to be answered with.
 
 Each line of a log stands here with its answer, as document 01 has it: nothing is computed but the
 digits. A command's ticket is the number of its line unless said otherwise, so that answers are
@@ -582,7 +582,7 @@ def main():
         if "--tables" in sys.argv:
             make().table()
         else:
-            make().write(Path(__file__).parent)
+            make().write(Path(__file__).resolve().parent.parent / "examples")
 
 
 if __name__ == "__main__":
