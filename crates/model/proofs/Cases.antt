@@ -10,12 +10,12 @@ use Rattle.laws.specs.Lists.{isEmpty}
 use Rattle.laws.proofs.Lists.{cond-elim}
 use Rattle.model.specs.Numbers.{tableWords, err, eos}
 use Rattle.model.specs.Device.{QueueType, dequeued, Stream, Device, queueOf, withQueue, withDrain, withSlots, Buffer, queuedIn, bufferOf, setState}
-use Rattle.model.specs.Frames.{LiveCommand, Command, create, live, CommandLine, commandOf, wrongLength, queueNamed, commandType, queueType}
-use Rattle.model.specs.Answers.{ErrorCode, invalidOperation, invalidStream, invalidParameter, bufferDone, drainDone}
+use Rattle.model.specs.Frames.{QueueCommand, LiveCommand, destroy, drain, control, toQueue, Command, create, live, CommandLine, commandOf, wrongLength, queueNamed, commandType, queueType}
+use Rattle.model.specs.Answers.{ErrorCode, invalidOperation, invalidStream, invalidParameter, unsupportedControl, bufferDone, drainDone}
 use Rattle.model.specs.Replies.{Reply, refuse, reply, Request, fail}
-use Rattle.model.specs.Commands.{Surroundings, onCreate, onLive, onStream, onLine, onCommand}
+use Rattle.model.specs.Commands.{Surroundings, onCreate, onDestroy, onDrain, onQueueOf, onNamed, onLive, onStream, onLine, onCommand}
 use Rattle.model.specs.Reports.{timestampOf, badEos, finishBuffer, finishQueue, finishStream, onFinish, endDrain, onDrained}
-use Rattle.model.specs.Steps.{Step, streamOf, Outcome, refused, perform, hostRefusal, step}
+use Rattle.model.specs.Steps.{Step, streamOf, Outcome, refused, performOf, hostRefusal, step}
 
 -- the queue that a command names
 abbrev pub named : Request → Option QueueType
@@ -39,6 +39,23 @@ module _ (P : Reply → Type 0) where
       of-line : (l : Option CommandLine) → P (onLine around c l)
       of-line none = fails invalidOperation
       of-line (some l) = cond-elim P (wrongLength (l .rule) (length (c .frame))) (λ _. fails invalidParameter) (λ _. of-stream (l .command) (c .self) refl)
+
+  -- an error, or a command to the queue that is named
+  pub named-cases : (k : QueueCommand) (c : Request) (b : Stream) → P (fail c invalidParameter) → ((q : QueueType) → named c ≡ some q → P (onQueueOf k c b q))
+      → P (onNamed k c b (named c))
+  named-cases k c b bad h = of (named c) refl
+    where
+      of : (o : Option QueueType) → named c ≡ o → P (onNamed k c b o)
+      of none e = bad
+      of (some q) e = h q e
+
+  -- an error, a destroy, a drain, or a command to the queue that is named
+  pub live-cases : (c : Request) (b : Stream) → ((e : ErrorCode) → P (fail c e)) → P (onDestroy c b) → P (onDrain c b)
+      → ((k : QueueCommand) (q : QueueType) → P (onQueueOf k c b q)) → (k : LiveCommand) → P (onLive k c b)
+  live-cases c b fails all ending each destroy = all
+  live-cases c b fails all ending each drain = ending
+  live-cases c b fails all ending each control = fails unsupportedControl
+  live-cases c b fails all ending each (toQueue k) = named-cases k c b (fails invalidParameter) (λ q e. each k q)
 
   -- refusal 5 or 6, or the answer to a Queued buffer
   pub finish-cases : (n qt r flags ts : ℕ) (self : Option Stream) → P (refuse 5 self) → P (refuse 6 self)
@@ -75,12 +92,12 @@ module _ (P : Reply → Type 0) where
 
 -- a refusal, or what the stream that the step names gives
 pub step-cases : (P : Outcome → Type 0) (d : Device) (s : Step) → ((k : ℕ) → P (refused k d))
-    → ((n : ℕ) → streamOf (s .act) ≡ some n → P (perform d (s .act) (some n))) → P (step d s)
+    → ((n : ℕ) → streamOf (s .act) ≡ some n → P (performOf d (s .act) (some n))) → P (step d s)
 unfolding step
 step-cases P d s refuses h =
     let k = hostRefusal tableWords (length (s .room)) true in
     cond-elim P (eqb k 0) (λ _. of-stream (streamOf (s .act)) refl) (λ _. refuses k)
   where
-    of-stream : (o : Option ℕ) → streamOf (s .act) ≡ o → P (perform d (s .act) o)
+    of-stream : (o : Option ℕ) → streamOf (s .act) ≡ o → P (performOf d (s .act) o)
     of-stream none e = refuses 4
     of-stream (some n) e = h n e

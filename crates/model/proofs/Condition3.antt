@@ -17,7 +17,7 @@ use Rattle.model.specs.Device.{QueueType, input, output, Stream, Device,
 use Rattle.model.specs.Frames.{queueNumber}
 use Rattle.model.specs.Answers.{Answer, response, bytesOf, Written, rewritten, answersIn}
 use Rattle.model.specs.Replies.{Reply}
-use Rattle.model.specs.Steps.{Act, command, finish, drained, Step, streamOf, serve, Outcome, refused, around, perform, step, Entry, entryOf, entriesOf, final, answersOf, isError, accepted}
+use Rattle.model.specs.Steps.{Act, command, finish, drained, Step, streamOf, serve, Outcome, refused, around, performOf, perform, step, Entry, entryOf, entriesOf, final, answersOf, isError, accepted}
 use Rattle.model.specs.WellFormed.{wellFormed, goodAct, goodSteps}
 use Rattle.model.specs.Ledger.{Fed, fed, Awaited, toBuffer, toDrain, Pending, Ledger, streamIn, ticketIn, awaitedBy, pending, adds, isBufferOf, isDrain, resourceIn, pays, due, byNumber, awaits, inOrder, ledgerAfter, paid, ownTickets, expectedTickets, fedOf, ledgerFrom, ledgerOf, tickets, AsExpected, reached, ofStep, answersTo, Owed, owed, owedTo, owedBuffers, owedDrain, owedIn}
 use Rattle.model.specs.Promises.{written}
@@ -50,11 +50,11 @@ module _ (s : Step) (o : Outcome) (read : answersIn (bytesOf (o .answers)) ≡ m
 
 record Agree (d : Device) (l : Ledger) : Type 0 where
   well : wellFormed d ≡ true
-  owes : (n : ℕ) → viewAt n l ≡ holding (recordOf n d)
+  owes : (n : ℕ) → viewAt n l ≡ holding (recordOf n (d .places))
   knows : allOf (awaits known) l ≡ true
 
-pub sane-record : (n : ℕ) (d : Device) → wellFormed d ≡ true → Sane (recordOf n d)
-sane-record n d h = of (recordOf n d) (well-record n d h)
+pub sane-record : (n : ℕ) (d : Device) → wellFormed d ≡ true → Sane (recordOf n (d .places))
+sane-record n d h = of (recordOf n (d .places)) (well-record n d h)
   where
     of : (r : Option Stream) → GoodSelf r → Sane r
     of none g = tt
@@ -95,15 +95,15 @@ module _ (k : ℕ) (d : Device) (l : Ledger) (s : Step) (g : Agree d l) (m : goo
       }
 
   -- a step of a stream
-  module _ (e : step d s ≡ perform d a (some (streamIn a))) where
+  module _ (e : step d s ≡ performOf d a (some (streamIn a))) where
     abbrev n : ℕ
     n = streamIn a
 
     abbrev v : Reply
-    v = serve (around d) n (recordOf n d) a
+    v = serve (around d n) n (recordOf n (d .places)) a
 
-    fit : FitsAct n a (recordOf n d) v
-    fit = serve-fits (around d) n (recordOf n d) a (sane-record n d (g .well))
+    fit : FitsAct n a (recordOf n (d .places)) v
+    fit = serve-fits (around d n) n (recordOf n (d .places)) a (sane-record n d (g .well))
 
     abbrev z : Bool
     z = eqb (v .refusal) 0
@@ -114,7 +114,7 @@ module _ (k : ℕ) (d : Device) (l : Ledger) (s : Step) (g : Agree d l) (m : goo
     fed-is : fedOf k (entryOf s (step d s)) ≡ fed k a z (fit .acc)
     fed-is = λ i. record { number = k; act = a; isZero = eqb (e i .refusal) 0; accepted = taken i }
 
-    own-owes : viewAt n (ledgerAfter (fed k a z (fit .acc)) l) ≡ holding (recordOf n (perform d a (some n) .device))
+    own-owes : viewAt n (ledgerAfter (fed k a z (fit .acc)) l) ≡ holding (recordOf n (performOf d a (some n) .device .places))
     own-owes =
         view-own k a z (fit .acc) l
         ∙ ap (viewAfter (pays a) (awaitedBy a) (ticketIn a) (fit .acc)) (g .owes n)
@@ -142,9 +142,9 @@ module _ (k : ℕ) (d : Device) (l : Ledger) (s : Step) (g : Agree d l) (m : goo
             owes = λ j.
                 ap (λ (x : Fed). viewAt j (ledgerAfter x l)) fed-is
                 ∙ decide (eqb n j)
-                (λ q. subst (λ (x : ℕ). viewAt x (ledgerAfter (fed k a z (fit .acc)) l) ≡ holding (recordOf x (perform d a (some n) .device))) (eqb-true n j q) own-owes)
+                (λ q. subst (λ (x : ℕ). viewAt x (ledgerAfter (fed k a z (fit .acc)) l) ≡ holding (recordOf x (performOf d a (some n) .device .places))) (eqb-true n j q) own-owes)
                 (λ q. view-other k j a z (fit .acc) l q ∙ g .owes j ∙ ap holding (sym (other-record j n d a q)))
-                ∙ ap (λ (x : Outcome). holding (recordOf j (x .device))) (sym e);
+                ∙ ap (λ (x : Outcome). holding (recordOf j (x .device .places))) (sym e);
             knows = ap (λ (x : Fed). allOf (awaits known) (ledgerAfter x l)) fed-is ∙ still-knows (fit .acc) (fit .adds);
           };
         }
@@ -161,9 +161,9 @@ kept k d l s g m =
     (λ e. of (streamOf (s .act)) refl (step-runs d s e))
     (λ e. kept-refused k d l s g m (roomRefusal s) e (step-refused d s e))
   where
-    of : (o : Option ℕ) → streamOf (s .act) ≡ o → step d s ≡ perform d (s .act) (streamOf (s .act)) → Kept k d l s
-    of none e h = kept-refused k d l s g m 4 refl (h ∙ ap (perform d (s .act)) e)
-    of (some n) e h = kept-own k d l s g m (h ∙ ap (perform d (s .act)) (e ∙ ap some (stream-is (s .act) n e)))
+    of : (o : Option ℕ) → streamOf (s .act) ≡ o → step d s ≡ perform d (s .act) → Kept k d l s
+    of none e h = kept-refused k d l s g m 4 refl (h ∙ ap (performOf d (s .act)) e)
+    of (some n) e h = kept-own k d l s g m (h ∙ ap (performOf d (s .act)) (e ∙ ap some (stream-is (s .act) n e)))
 
 -- and so over a whole list
 
@@ -288,8 +288,8 @@ module _ (p : Owed → Bool) where
         count-append p (owedBuffers 0x101 (queuedIn (b .outputs .slots))) (owedDrain (b .draining)),
       )
 
-  agree-owes : (d : Device) (l : Ledger) (n : ℕ) → Agree d l → count p (owedTo n l) ≡ count p (owedIn (recordOf n d))
-  agree-owes d l n g = by-ledger (keep (to n) l) (all-keep (awaits known) (to n) l (g .knows)) ∙ ap inView (g .owes n) ∙ by-record (recordOf n d)
+  agree-owes : (d : Device) (l : Ledger) (n : ℕ) → Agree d l → count p (owedTo n l) ≡ count p (owedIn (recordOf n (d .places)))
+  agree-owes d l n g = by-ledger (keep (to n) l) (all-keep (awaits known) (to n) l (g .knows)) ∙ ap inView (g .owes n) ∙ by-record (recordOf n (d .places))
 
 -- Each is answered once or owed once
 

@@ -14,15 +14,16 @@ use Rattle.laws.proofs.Tests.{never}
 use Rattle.laws.proofs.Lists.{cond-elim, eqb-refl, eqb-sym, keep-ascending, keep-const, none-is, any-append, map-append}
 use Rattle.field.specs.Field.{field}
 use Rattle.model.specs.Device.{QueueType, input, output, queued, dequeued, Queue, Stream, newStream, queueOf, withQueue, withDrain, withSlots, Buffer, queuedIn, byResource, buffers, bufferOf, present, addResource, setState, freeAll}
-use Rattle.model.specs.Frames.{LiveCommand, destroy, drain, createResource, queueResource, destroyAll, clear, getParameters, setParameters, queryControl, getControl, setControl, create, live, CommandLine, commands, commandOf, wrongLength, queueNumber, queueNamed, codedFormat, resourceId, timestampSent}
+use Rattle.model.specs.Frames.{QueueCommand, createResource, queueResource, destroyAll, clear, getParameters, setParameters, LiveCommand, destroy, drain, control, toQueue, create, live, CommandLine, commands, commandOf, wrongLength, queueNumber, queueNamed, codedFormat, resourceId, timestampSent}
 use Rattle.model.specs.Answers.{ErrorCode, invalidOperation, invalidStream, invalidParameter, unsupportedControl, Response, success, bufferDone, drainDone, parameters, failure, Answer}
 use Rattle.model.specs.Replies.{Reply, refuse, reply, Request, own, fail}
-use Rattle.model.specs.Commands.{Surroundings, onCreate, stoppedAnswers, drainAnswers, onDestroy, onDrain, onCreateResource, onQueue, onDestroyAll, drainEnded, drainLeft, cleared, onClear, onGet, onSet, onLive, onStream, onLine, onCommand}
+use Rattle.model.specs.Commands.{Surroundings, onCreate, stoppedAnswers, drainAnswers, onDestroy, onDrain, onCreateResource, onQueue, onDestroyAll, drainEnded, drainLeft, cleared, onClear, onGet, onSet, onQueueOf, onLive, onStream, onLine, onCommand}
 use Rattle.model.specs.Reports.{timestampOf, badEos, finishBuffer, finishQueue, finishStream, onFinish, endDrain, onDrained}
 use Rattle.model.specs.Steps.{Act, command, finish, drained, serve}
 use Rattle.model.specs.Ledger.{Awaited, toBuffer, toDrain, awaitedBy, isBufferOf, isDrain, resourceIn, pays, ticketIn, ownTickets}
 use Rattle.model.proofs.Slots.{byRes, Distinct, queued-stop, queued-free, queued-add, queued-finish, queued-only, queued-more, isRes}
-use Rattle.model.proofs.Walk.{walk, walk-queue}
+use Rattle.model.proofs.Walk.{walk}
+use Rattle.model.proofs.Cases.{named-cases}
 use Rattle.model.proofs.Lines.{Each, each-line, by-type, named-number}
 use Rattle.model.proofs.LedgerView.{View, pick, bufferTickets, ticketsOf, viewAfter, ticketsPaid}
 
@@ -328,19 +329,23 @@ module _ (n t : ℕ) (f : List ℕ) (b : Stream) (s : Sane (some b)) where
   bad : (ty : ℕ) (e : ErrorCode) → Live ty (fail c e)
   bad ty e = fail-type ty n t f (some b) e
 
-  queued-live : Live 0x0105 (onQueue c b)
+  -- a command to the queue that it names
+  in-queue : (ty : ℕ) (k : QueueCommand) → ((q : QueueType) → queueNamed (field 4 f 8) ≡ some q → Live ty (onQueueOf k c b q)) → Live ty (onLive (toQueue k) c b)
+  in-queue ty k h = named-cases (Live ty) k c b (bad ty invalidParameter) h
+
+  queued-live : Live 0x0105 (onLive (toQueue queueResource) c b)
   unfolding onQueue
   queued-live =
-      walk-queue (Live 0x0105) c (queueNamed (field 4 f 8)) _ (bad 0x0105) (λ q e h₁ h₂ h₃ h₄ h₅.
+      in-queue 0x0105 queueResource (λ q e. walk (Live 0x0105) c _ (bad 0x0105) (λ h₁ h₂ h₃ h₄ h₅.
       subst (λ (x : ℕ). Fits (λ w. false) (some (toBuffer x (resourceId f) (timestampSent f))) n t (me t true) (some b)
       (reply [] (some (withQueue q (withSlots (setState (resourceId f) (queued t (timestampSent f)) (queueOf q b .slots)) (queueOf q b)) b))))
       (sym (named-number (field 4 f 8) q e))
-      (queue-fits q n t (resourceId f) (timestampSent f) b s (not-false _ h₄) (none-is _ (not-false _ h₅))))
+      (queue-fits q n t (resourceId f) (timestampSent f) b s (not-false _ h₄) (none-is _ (not-false _ h₅)))))
 
-  cleared-live : Live 0x0107 (onClear c b)
+  cleared-live : Live 0x0107 (onLive (toQueue clear) c b)
   unfolding onClear
   cleared-live =
-      walk-queue (Live 0x0107) c (queueNamed (field 4 f 8)) _ (bad 0x0107) (λ q e.
+      in-queue 0x0107 clear (λ q e.
       subst (λ (x : ℕ). Fits (clears x) none n t (me t false) (some b)
       (reply (stoppedAnswers n q (buffers q b) ++ (drainAnswers n (drainEnded q b) ++ own c success ∷ [])) (some (withQueue q (cleared (queueOf q b)) (withDrain (drainLeft q b) b)))))
       (sym (named-number (field 4 f 8) q e)) (clear-fits q n t b))
@@ -350,27 +355,27 @@ module _ (n t : ℕ) (f : List ℕ) (b : Stream) (s : Sane (some b)) where
       → Fits (λ w. false) none n t (me t false) (some b) (reply (own c success ∷ []) (some (withQueue q x b)))
   quiet q x h = quiet-fits n t (own c success) (some b) (some (withQueue q x b)) refl refl (same-queued q x b h)
 
-  resource-live : Live 0x0104 (onCreateResource c b)
+  resource-live : Live 0x0104 (onLive (toQueue createResource) c b)
   unfolding onCreateResource
   resource-live =
-      walk-queue (Live 0x0104) c (queueNamed (field 4 f 8)) _ (bad 0x0104) (λ q e h₁ h₂ h₃ h₄ h₅ h₆ h₇.
+      in-queue 0x0104 createResource (λ q e. walk (Live 0x0104) c _ (bad 0x0104) (λ h₁ h₂ h₃ h₄ h₅ h₆ h₇.
       let x = queueOf q b .slots in
-      quiet q (withSlots (addResource (resourceId f) x) (queueOf q b)) (queued-add (resourceId f) x))
+      quiet q (withSlots (addResource (resourceId f) x) (queueOf q b)) (queued-add (resourceId f) x)))
 
-  freed-live : Live 0x0106 (onDestroyAll c b)
+  freed-live : Live 0x0106 (onLive (toQueue destroyAll) c b)
   unfolding onDestroyAll
   freed-live =
-      walk-queue (Live 0x0106) c (queueNamed (field 4 f 8)) _ (bad 0x0106) (λ q e h.
+      in-queue 0x0106 destroyAll (λ q e. walk (Live 0x0106) c _ (bad 0x0106) (λ h.
       let x = queueOf q b .slots in
-      quiet q (withSlots (freeAll x) (queueOf q b)) (queued-free x ∙ sym (empty-is _ (not-false _ h))))
+      quiet q (withSlots (freeAll x) (queueOf q b)) (queued-free x ∙ sym (empty-is _ (not-false _ h)))))
 
-  got-live : Live 0x0108 (onGet c b)
+  got-live : Live 0x0108 (onLive (toQueue getParameters) c b)
   unfolding onGet
-  got-live = walk-queue (Live 0x0108) c (queueNamed (field 4 f 8)) _ (bad 0x0108) (λ q e. quiet-fits n t (own c (parameters _)) (some b) (some b) refl refl refl)
+  got-live = in-queue 0x0108 getParameters (λ q e. quiet-fits n t (own c (parameters _)) (some b) (some b) refl refl refl)
 
-  set-live : Live 0x0109 (onSet c b)
+  set-live : Live 0x0109 (onLive (toQueue setParameters) c b)
   unfolding onSet
-  set-live = walk-queue (Live 0x0109) c (queueNamed (field 4 f 8)) _ (bad 0x0109) (λ q e h₁ h₂ h₃ h₄. quiet q _ refl)
+  set-live = in-queue 0x0109 setParameters (λ q e. walk (Live 0x0109) c _ (bad 0x0109) (λ h₁ h₂ h₃ h₄. quiet q _ refl))
 
   drain-live : Live 0x0103 (onDrain c b)
   unfolding onDrain
@@ -425,22 +430,22 @@ module _ (around : Surroundings) (n t : ℕ) (f : List ℕ) where
       (
         live-line 0x0103 drain self s (drain-live n t f),
         (
-          live-line 0x0104 createResource self s (resource-live n t f),
+          live-line 0x0104 (toQueue createResource) self s (resource-live n t f),
           (
-            live-line 0x0105 queueResource self s (queued-live n t f),
+            live-line 0x0105 (toQueue queueResource) self s (queued-live n t f),
             (
-              live-line 0x0106 destroyAll self s (freed-live n t f),
+              live-line 0x0106 (toQueue destroyAll) self s (freed-live n t f),
               (
-                live-line 0x0107 clear self s (cleared-live n t f),
+                live-line 0x0107 (toQueue clear) self s (cleared-live n t f),
                 (
-                  live-line 0x0108 getParameters self s (got-live n t f),
+                  live-line 0x0108 (toQueue getParameters) self s (got-live n t f),
                   (
-                    live-line 0x0109 setParameters self s (set-live n t f),
+                    live-line 0x0109 (toQueue setParameters) self s (set-live n t f),
                     (
-                      live-line 0x010A queryControl self s (unsupported 0x010A),
+                      live-line 0x010A control self s (unsupported 0x010A),
                       (
-                        live-line 0x010B getControl self s (unsupported 0x010B),
-                        (live-line 0x010C setControl self s (unsupported 0x010C), tt),
+                        live-line 0x010B control self s (unsupported 0x010B),
+                        (live-line 0x010C control self s (unsupported 0x010C), tt),
                       ),
                     ),
                   ),

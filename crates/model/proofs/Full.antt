@@ -4,46 +4,45 @@ use native.Mathlib.Omega.{arith}
 use mathlib.Core.Path.{_≡_, refl, sym, ap, _∙_}
 use mathlib.Core.Bool.{Bool, true, false, not, _&&_, and-false}
 use mathlib.Core.Option.{Option, none, some}
-use mathlib.Core.List.{[], _∷_}
+use mathlib.Core.List.{List, [], _∷_}
 use lib.ListN.{length}
 use lib.Dec.{eqb}
-use borrow.Author.Tests.{eqb-true}
 use Rattle.laws.specs.Tests.{within}
-use Rattle.laws.specs.Lists.{allOf, count}
-use Rattle.laws.proofs.Tests.{never, and-left}
+use Rattle.laws.specs.Lists.{count}
+use Rattle.laws.proofs.Tests.{never}
 use Rattle.laws.proofs.Lists.{decide}
 use Rattle.field.specs.Field.{field, littleEndian}
 use Rattle.tag.specs.Tag.{createType, createLength, goodTag, tagIn}
-use Rattle.model.specs.Numbers.{streamPlaces, firstCoded, lastCoded}
-use Rattle.model.specs.Device.{Stream, vacant, occupied, Device, recordOf, noPlace}
+use Rattle.model.specs.Numbers.{firstCoded, lastCoded}
+use Rattle.model.specs.Device.{Stream, Place, vacant, occupied, recordOf, noPlace}
 use Rattle.model.specs.Frames.{create, exactly, CommandLine, _is_ofLength_, commandOf, wrongLength, commandType, inMemType, outMemType, codedFormat}
 use Rattle.model.specs.Answers.{invalidOperation, invalidParameter, responseBytes, readFrom}
 use Rattle.model.specs.Replies.{Reply, Request, fail, first}
-use Rattle.model.specs.Commands.{onCreate, onStream, onLine, onCommand}
-use Rattle.model.specs.Steps.{Act, command, finish, drained, serve, Outcome, entryOf, isCreation, outOfMemoryAt}
-use Rattle.model.specs.WellFormed.{goodPlace, distinctPlaces, wellFormed}
+use Rattle.model.specs.Commands.{Surroundings, withFull, onCreate, onStream, onLine, onCommand}
+use Rattle.model.specs.Steps.{Act, command, finish, drained, serve, Outcome, around, entryOf, isCreation, outOfMemoryAt}
 use Rattle.model.specs.Promises.{isLive, FullAtEight}
 use Rattle.model.proofs.Lines.{by-type}
+use Rattle.model.proofs.WellFormed.{well-places}
 use Rattle.model.proofs.Cases.{step-cases}
-use Rattle.model.proofs.Isolation.{alone, tellsFull}
+use Rattle.model.proofs.Isolation.{notFull, tellsFull}
 
 abbrev Quiet : Reply → Type 0
 Quiet v = tellsFull v ≡ false
 
 -- no other error says so, and where a place is vacant a creation does not
-create-quiet : (c : Request) → Quiet (onCreate alone c)
+create-quiet : (around : Surroundings) (c : Request) → Quiet (onCreate (notFull around) c)
 unfolding onCreate first readFrom responseBytes littleEndian field
-create-quiet c =
+create-quiet around c =
     let f = c .frame in
     decide (not (eqb (inMemType f) 0)) (λ e. simp e refl) (λ e₁.
     decide (not (eqb (outMemType f) 0)) (λ e. simp (e₁, e) refl) (λ e₂.
     decide (not (within (codedFormat f) firstCoded lastCoded)) (λ e. simp (e₁, e₂, e) refl) (λ e₃.
     decide (not (goodTag (tagIn f))) (λ e. simp (e₁, e₂, e₃, e) refl) (λ e₄. simp (e₁, e₂, e₃, e₄) refl))))
 
-stream-quiet : (c : Request) (self : Option Stream) → Quiet (onStream alone c create self)
+stream-quiet : (around : Surroundings) (c : Request) (self : Option Stream) → Quiet (onStream (notFull around) c create self)
 unfolding readFrom responseBytes littleEndian field
-stream-quiet c none = create-quiet c
-stream-quiet c (some b) = refl
+stream-quiet around c none = create-quiet around c
+stream-quiet around c (some b) = refl
 
 length-quiet : (c : Request) → Quiet (fail c invalidParameter)
 unfolding readFrom responseBytes littleEndian field
@@ -53,39 +52,36 @@ unknown-quiet : (c : Request) → Quiet (fail c invalidOperation)
 unfolding readFrom responseBytes littleEndian field
 unknown-quiet c = refl
 
-line-quiet : (c : Request) (l : CommandLine) → l .command ≡ create → Quiet (onLine alone c (some l))
-line-quiet c l e =
-    decide (wrongLength (l .rule) (length (c .frame))) (λ w. simp w (length-quiet c)) (λ w. simp (w, e) (stream-quiet c (c .self)))
+line-quiet : (around : Surroundings) (c : Request) (l : CommandLine) → l .command ≡ create → Quiet (onLine (notFull around) c (some l))
+line-quiet around c l e =
+    decide (wrongLength (l .rule) (length (c .frame))) (λ w. simp w (length-quiet c)) (λ w. simp (w, e) (stream-quiet around c (c .self)))
 
-command-quiet : (c : Request) (ty : ℕ) → (eqb ty 0x0101 && tellsFull (onLine alone c (commandOf ty))) ≡ false
-command-quiet c =
-    by-type (λ ty l. (eqb ty 0x0101 && tellsFull (onLine alone c l)) ≡ false) (
-      line-quiet c (createType is create ofLength exactly createLength) refl,
+command-quiet : (around : Surroundings) (c : Request) (ty : ℕ) → (eqb ty 0x0101 && tellsFull (onLine (notFull around) c (commandOf ty))) ≡ false
+command-quiet around c =
+    by-type (λ ty l. (eqb ty 0x0101 && tellsFull (onLine (notFull around) c l)) ≡ false) (
+      line-quiet around c (createType is create ofLength exactly createLength) refl,
       (refl, (refl, (refl, (refl, (refl, (refl, (refl, (refl, (refl, (refl, (refl, tt))))))))))),
     )
     (λ ty. ap (λ (b : Bool). eqb ty 0x0101 && b) (unknown-quiet c) ∙ and-false (eqb ty 0x0101))
 
-act-quiet : (n : ℕ) (self : Option Stream) (a : Act) → (isCreation a && tellsFull (serve alone n self a)) ≡ false
+act-quiet : (around : Surroundings) (n : ℕ) (self : Option Stream) (a : Act) → (isCreation a && tellsFull (serve (notFull around) n self a)) ≡ false
 unfolding serve onCommand
-act-quiet n self (command t f) = command-quiet (record { stream = n; ticket = t; frame = f; self = self }) (commandType f)
-act-quiet n self (finish m qt r flags ts) = refl
-act-quiet n self (drained m) = refl
+act-quiet around n self (command t f) = command-quiet around (record { stream = n; ticket = t; frame = f; self = self }) (commandType f)
+act-quiet around n self (finish m qt r flags ts) = refl
+act-quiet around n self (drained m) = refl
 
 -- so a step that says so found no place
 
-all-live : (d : Device) → noPlace d ≡ true → count isLive d ≡ length d
+all-live : (ps : List Place) → noPlace ps ≡ true → count isLive ps ≡ length ps
 all-live [] h = refl
-all-live (vacant ∷ d) h = never (sym h)
-all-live (occupied n b ∷ d) h = omega (arith, all-live d h)
-
-eight : (d : Device) → wellFormed d ≡ true → length d ≡ 8
-unfolding wellFormed
-eight d h = eqb-true (length d) streamPlaces (and-left (eqb (length d) streamPlaces) (allOf goodPlace d && distinctPlaces d) h)
+all-live (vacant ∷ ps) h = never (sym h)
+all-live (occupied n b ∷ ps) h = omega (arith, all-live ps h)
 
 pub full-at-eight : FullAtEight
 unfolding outOfMemoryAt readFrom
 full-at-eight d s h =
-    step-cases (λ (o : Outcome). outOfMemoryAt (entryOf s o) ≡ true → count isLive d ≡ 8) d s
+    step-cases (λ (o : Outcome). outOfMemoryAt (entryOf s o) ≡ true → count isLive (d .places) ≡ 8) d s
     (λ k e. never (sym e ∙ and-false (isCreation (s .act))))
-    (λ n _ e. decide (noPlace d) (λ f. all-live d f ∙ eight d h)
-    (λ f. never (sym e ∙ ap (λ (b : Bool). isCreation (s .act) && tellsFull (serve (record { full = b }) n (recordOf n d) (s .act))) f ∙ act-quiet n (recordOf n d) (s .act))))
+    (λ n _ e. let self = recordOf n (d .places) in
+    decide (noPlace (d .places)) (λ f. all-live (d .places) f ∙ (well-places d h) .size)
+    (λ f. never (sym e ∙ ap (λ (b : Bool). isCreation (s .act) && tellsFull (serve (withFull b (around d n)) n self (s .act))) f ∙ act-quiet (around d n) n self (s .act))))

@@ -18,15 +18,15 @@ use Rattle.field.specs.Field.{field, littleEndian}
 use Rattle.field.proofs.Laws.{field-after, field-back}
 use Rattle.model.specs.Numbers.{err}
 use Rattle.model.specs.Device.{QueueType, input, output, created, queued, dequeued, Slot, free, resource, Stream, Device, queueOf, Buffer, queuedIn, buffers, bufferOf, recordOf}
-use Rattle.model.specs.Frames.{LiveCommand, destroy, drain, createResource, queueResource, destroyAll, clear, getParameters, setParameters, queryControl, getControl, setControl, word}
+use Rattle.model.specs.Frames.{QueueCommand, createResource, queueResource, destroyAll, clear, getParameters, setParameters, LiveCommand, word}
 use Rattle.model.specs.Answers.{ErrorCode, invalidOperation, outOfMemory, invalidStream, invalidResource, invalidParameter, unsupportedControl, Response, success, bufferDone, drainDone, parameters, failure, Answer, words, responseBytes, response, bytesOf, readFrom, answersIn}
 use Rattle.model.specs.Replies.{Reply, Request, own, fail}
-use Rattle.model.specs.Commands.{Surroundings, stoppedAnswers, drainAnswers, onCreate, onDestroy, onDrain, onCreateResource, onQueue, onDestroyAll, drainEnded, onClear, parameterWords, onGet, onSet, onLive, onCommand}
+use Rattle.model.specs.Commands.{Surroundings, stoppedAnswers, drainAnswers, onCreate, onDestroy, onDrain, onCreateResource, onQueue, onDestroyAll, drainEnded, onClear, parameterWords, onGet, onSet, onQueueOf, onLive, onCommand}
 use Rattle.model.specs.Steps.{Act, command, finish, drained, Step, serve, Outcome, around, step, isError}
 use Rattle.model.specs.WellFormed.{u32, goodSlot, goodDrain, wellFormed, goodAct}
 use Rattle.model.specs.Promises.{written, ReadBack}
-use Rattle.model.proofs.Walk.{walk, walk-queue}
-use Rattle.model.proofs.Cases.{named, command-cases, finish-cases, drained-cases, step-cases}
+use Rattle.model.proofs.Walk.{walk}
+use Rattle.model.proofs.Cases.{live-cases, command-cases, finish-cases, drained-cases, step-cases}
 use Rattle.model.proofs.Fits.{isFailure}
 use Rattle.model.proofs.WellFormed.{GoodStream, GoodSelf, good-queue-of, well-record}
 
@@ -172,9 +172,22 @@ module _ (c : Request) (t : u32 (c .ticket) ≡ true) where
   unfolding u32
   fails e = own-good c (failure e) t refl
 
-  live-answers : (k : LiveCommand) (b : Stream) → GoodStream b → GoodAnswers (onLive k c b)
-  unfolding onDestroy onDrain onCreateResource onQueue onDestroyAll onClear onGet onSet u32
-  live-answers destroy b g =
+  queue-answers : (k : QueueCommand) (b : Stream) (q : QueueType) → GoodStream b → GoodAnswers (onQueueOf k c b q)
+  unfolding onCreateResource onQueue onDestroyAll onClear onGet onSet u32
+  queue-answers createResource b q g = walk GoodAnswers c _ fails (λ h₁ h₂ h₃ h₄ h₅ h₆ h₇. succeeds)
+  queue-answers queueResource b q g = walk GoodAnswers c _ fails (λ h₁ h₂ h₃ h₄ h₅. refl)
+  queue-answers destroyAll b q g = walk GoodAnswers c _ fails (λ h. succeeds)
+  queue-answers clear b q g =
+      let n = c .stream in
+      let d = drainAnswers n (drainEnded q b) in
+      all-both (stoppedAnswers n q (buffers q b)) (d ++ own c success ∷ []) (stopped-good n q b g)
+      (all-both d (own c success ∷ []) (drain-good n (drainEnded q b) (ended-good q b g)) succeeds)
+  queue-answers getParameters b q g = own-good c (parameters (parameterWords q b)) t (ap (λ k. u32 (8 + 4 * k)) (length-parameters q b))
+  queue-answers setParameters b q g = walk GoodAnswers c _ fails (λ h₁ h₂ h₃ h₄. succeeds)
+
+  destroy-answers : (b : Stream) → GoodStream b → GoodAnswers (onDestroy c b)
+  unfolding onDestroy
+  destroy-answers b g =
       let n = c .stream in
       let i = stoppedAnswers n input (buffers input b) in
       let o = stoppedAnswers n output (buffers output b) in
@@ -182,22 +195,10 @@ module _ (c : Request) (t : u32 (c .ticket) ≡ true) where
       all-both i (o ++ (d ++ own c success ∷ [])) (stopped-good n input b g)
       (all-both o (d ++ own c success ∷ []) (stopped-good n output b g)
       (all-both d (own c success ∷ []) (drain-good n (b .draining) (g .draining)) succeeds))
-  live-answers drain b g = walk GoodAnswers c _ fails (λ h. refl)
-  live-answers createResource b g = walk-queue GoodAnswers c (named c) _ fails (λ q e h₁ h₂ h₃ h₄ h₅ h₆ h₇. succeeds)
-  live-answers queueResource b g = walk-queue GoodAnswers c (named c) _ fails (λ q e h₁ h₂ h₃ h₄ h₅. refl)
-  live-answers destroyAll b g = walk-queue GoodAnswers c (named c) _ fails (λ q e h. succeeds)
-  live-answers clear b g =
-      walk-queue GoodAnswers c (named c) _ fails (λ q e.
-      let n = c .stream in
-      let d = drainAnswers n (drainEnded q b) in
-      all-both (stoppedAnswers n q (buffers q b)) (d ++ own c success ∷ []) (stopped-good n q b g)
-      (all-both d (own c success ∷ []) (drain-good n (drainEnded q b) (ended-good q b g)) succeeds))
-  live-answers getParameters b g =
-      walk-queue GoodAnswers c (named c) _ fails (λ q e. own-good c (parameters (parameterWords q b)) t (ap (λ k. u32 (8 + 4 * k)) (length-parameters q b)))
-  live-answers setParameters b g = walk-queue GoodAnswers c (named c) _ fails (λ q e h₁ h₂ h₃ h₄. succeeds)
-  live-answers queryControl b g = fails unsupportedControl
-  live-answers getControl b g = fails unsupportedControl
-  live-answers setControl b g = fails unsupportedControl
+
+  live-answers : (k : LiveCommand) (b : Stream) → GoodStream b → GoodAnswers (onLive k c b)
+  unfolding onDrain
+  live-answers k b g = live-cases GoodAnswers c b fails (destroy-answers b g) (walk GoodAnswers c _ fails (λ h. refl)) (λ j q. queue-answers j b q g) k
 
   command-answers : (around : Surroundings) → GoodSelf (c .self) → GoodAnswers (onCommand around c)
   unfolding onCreate
@@ -221,7 +222,7 @@ serve-answers around n self (drained k) g m =
 pub step-answers : (d : Device) (s : Step) → wellFormed d ≡ true → goodAct (s .act) ≡ true → allOf goodAnswer (step d s .answers) ≡ true
 step-answers d s h m =
     step-cases (λ (o : Outcome). allOf goodAnswer (o .answers) ≡ true) d s (λ k. refl)
-    (λ n e. serve-answers (around d) n (recordOf n d) (s .act) (well-record n d h) m)
+    (λ n e. serve-answers (around d n) n (recordOf n (d .places)) (s .act) (well-record n d h) m)
 
 pub read-back : ReadBack
 read-back d s h m = read-back-list (step d s .answers) (step-answers d s h m)

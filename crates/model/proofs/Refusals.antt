@@ -10,15 +10,15 @@ use Rattle.laws.specs.Lists.{allOf}
 use Rattle.laws.proofs.Tests.{never, both}
 use Rattle.laws.proofs.Lists.{decide, cond-elim}
 use Rattle.model.specs.Numbers.{tableWords, answerRoom, headerBytes}
-use Rattle.model.specs.Device.{Stream, Device, fresh, recordOf}
-use Rattle.model.specs.Frames.{LiveCommand, destroy, drain, createResource, queueResource, destroyAll, clear, getParameters, setParameters, queryControl, getControl, setControl, streamId}
+use Rattle.model.specs.Device.{QueueType, Stream, Device, fresh, recordOf}
+use Rattle.model.specs.Frames.{QueueCommand, createResource, queueResource, destroyAll, clear, getParameters, setParameters, LiveCommand, streamId}
 use Rattle.model.specs.Replies.{Reply, Request}
-use Rattle.model.specs.Commands.{Surroundings, onCreate, onDestroy, onDrain, onCreateResource, onQueue, onDestroyAll, onClear, onGet, onSet, onLive, onCommand}
-use Rattle.model.specs.Steps.{Act, command, finish, drained, Step, streamOf, serve, Outcome, around, perform, hostRefusal, step, entryOf, entriesOf}
+use Rattle.model.specs.Commands.{Surroundings, onCreate, onDestroy, onDrain, onCreateResource, onQueue, onDestroyAll, onClear, onGet, onSet, onQueueOf, onLive, onCommand}
+use Rattle.model.specs.Steps.{Act, command, finish, drained, Step, streamOf, serve, Outcome, around, performOf, perform, hostRefusal, step, entryOf, entriesOf}
 use Rattle.model.specs.Tables.{Layout, Lawful, valid, effect}
 use Rattle.model.specs.Promises.{listed, OnlyListed, tableGood, NoTableRefusal}
-use Rattle.model.proofs.Walk.{walk, walk-queue}
-use Rattle.model.proofs.Cases.{named, command-cases, finish-cases, drained-cases}
+use Rattle.model.proofs.Walk.{walk}
+use Rattle.model.proofs.Cases.{live-cases, command-cases, finish-cases, drained-cases}
 use Rattle.model.proofs.Isolation.{step-runs, step-refused, roomRefusal}
 use Rattle.model.proofs.Tables.{same-run}
 
@@ -26,19 +26,18 @@ use Rattle.model.proofs.Tables.{same-run}
 abbrev NotRefused : Reply → Type 0
 NotRefused v = v .refusal ≡ 0
 
+queue-answers : (k : QueueCommand) (c : Request) (b : Stream) (q : QueueType) → NotRefused (onQueueOf k c b q)
+unfolding onCreateResource onQueue onDestroyAll onClear onGet onSet
+queue-answers createResource c b q = walk NotRefused c _ (λ e. refl) (λ h₁ h₂ h₃ h₄ h₅ h₆ h₇. refl)
+queue-answers queueResource c b q = walk NotRefused c _ (λ e. refl) (λ h₁ h₂ h₃ h₄ h₅. refl)
+queue-answers destroyAll c b q = walk NotRefused c _ (λ e. refl) (λ h. refl)
+queue-answers clear c b q = refl
+queue-answers getParameters c b q = refl
+queue-answers setParameters c b q = walk NotRefused c _ (λ e. refl) (λ h₁ h₂ h₃ h₄. refl)
+
 live-answers : (k : LiveCommand) (c : Request) (b : Stream) → NotRefused (onLive k c b)
-unfolding onDestroy onDrain onCreateResource onQueue onDestroyAll onClear onGet onSet
-live-answers destroy c b = refl
-live-answers drain c b = walk NotRefused c _ (λ e. refl) (λ h. refl)
-live-answers createResource c b = walk-queue NotRefused c (named c) _ (λ e. refl) (λ q e h₁ h₂ h₃ h₄ h₅ h₆ h₇. refl)
-live-answers queueResource c b = walk-queue NotRefused c (named c) _ (λ e. refl) (λ q e h₁ h₂ h₃ h₄ h₅. refl)
-live-answers destroyAll c b = walk-queue NotRefused c (named c) _ (λ e. refl) (λ q e h. refl)
-live-answers clear c b = walk-queue NotRefused c (named c) _ (λ e. refl) (λ q e. refl)
-live-answers getParameters c b = walk-queue NotRefused c (named c) _ (λ e. refl) (λ q e. refl)
-live-answers setParameters c b = walk-queue NotRefused c (named c) _ (λ e. refl) (λ q e h₁ h₂ h₃ h₄. refl)
-live-answers queryControl c b = refl
-live-answers getControl c b = refl
-live-answers setControl c b = refl
+unfolding onDestroy onDrain
+live-answers k c b = live-cases NotRefused c b (λ e. refl) refl (walk NotRefused c _ (λ e. refl) (λ h. refl)) (λ j q. queue-answers j c b q) k
 
 pub command-answers : (around : Surroundings) (c : Request) → NotRefused (onCommand around c)
 unfolding onCreate
@@ -48,15 +47,15 @@ command-answers around c =
 -- what holds of 0, of 4 to a command, of 5 and 6 to a finish and of 5 to a drained report holds of every step's own refusal
 module _ (Q : Act → ℕ → Type 0) (zero : (a : Act) → Q a 0) (four : (t : ℕ) (f : List ℕ) → Q (command t f) 4)
     (five : (n qt r flags ts : ℕ) → Q (finish n qt r flags ts) 5) (six : (n qt r flags ts : ℕ) → Q (finish n qt r flags ts) 6) (late : (n : ℕ) → Q (drained n) 5) where
-  pub own-refusals : (d : Device) (a : Act) → Q a (perform d a (streamOf a) .refusal)
+  pub own-refusals : (d : Device) (a : Act) → Q a (perform d a .refusal)
   unfolding streamOf serve
   own-refusals d (command t f) =
-      cond-elim (λ (o : Option ℕ). Q (command t f) (perform d (command t f) o .refusal)) (ltb (length f) headerBytes) (λ _. four t f)
-      (λ _. subst (Q (command t f)) (sym (command-answers (around d) (record { stream = streamId f; ticket = t; frame = f; self = recordOf (streamId f) d }))) (zero (command t f)))
+      cond-elim (λ (o : Option ℕ). Q (command t f) (performOf d (command t f) o .refusal)) (ltb (length f) headerBytes) (λ _. four t f)
+      (λ _. subst (Q (command t f)) (sym (command-answers (around d (streamId f)) (record { stream = streamId f; ticket = t; frame = f; self = recordOf (streamId f) (d .places) }))) (zero (command t f)))
   own-refusals d (finish n qt r flags ts) =
-      finish-cases (λ (v : Reply). Q (finish n qt r flags ts) (v .refusal)) n qt r flags ts (recordOf n d)
+      finish-cases (λ (v : Reply). Q (finish n qt r flags ts) (v .refusal)) n qt r flags ts (recordOf n (d .places))
       (five n qt r flags ts) (six n qt r flags ts) (λ q b i e h. zero (finish n qt r flags ts))
-  own-refusals d (drained n) = drained-cases (λ (v : Reply). Q (drained n) (v .refusal)) n (recordOf n d) (late n) (λ b t e h. zero (drained n))
+  own-refusals d (drained n) = drained-cases (λ (v : Reply). Q (drained n) (v .refusal)) n (recordOf n (d .places)) (late n) (λ b t e h. zero (drained n))
 
 abbrev Listed : Act → ℕ → Type 0
 Listed a k = listed a k ≡ true

@@ -8,16 +8,16 @@ use lib.ListN.{length, length-append}
 use Rattle.field.specs.Field.{littleEndian}
 use Rattle.model.specs.Numbers.{answerRoom, err}
 use Rattle.model.specs.Device.{QueueType, input, output, created, queued, dequeued, Slot, free, resource, Stream, queueOf, Buffer, queuedIn, buffers, recordOf}
-use Rattle.model.specs.Frames.{LiveCommand, destroy, drain, createResource, queueResource, destroyAll, clear, getParameters, setParameters, queryControl, getControl, setControl}
-use Rattle.model.specs.Answers.{ErrorCode, unsupportedControl, Response, success, bufferDone, drainDone, parameters, failure, Answer, responseBytes, bytesOf}
+use Rattle.model.specs.Frames.{QueueCommand, createResource, queueResource, destroyAll, clear, getParameters, setParameters, LiveCommand}
+use Rattle.model.specs.Answers.{ErrorCode, Response, success, bufferDone, drainDone, parameters, failure, Answer, responseBytes, bytesOf}
 use Rattle.model.specs.Replies.{Reply, Request, own, fail}
-use Rattle.model.specs.Commands.{Surroundings, stoppedAnswers, drainAnswers, onCreate, onDestroy, onDrain, onCreateResource, onQueue, onDestroyAll, drainEnded, onClear, parameterWords, onGet, onSet, onLive, onCommand}
+use Rattle.model.specs.Commands.{Surroundings, stoppedAnswers, drainAnswers, onCreate, onDestroy, onDrain, onCreateResource, onQueue, onDestroyAll, drainEnded, onClear, parameterWords, onGet, onSet, onQueueOf, onLive, onCommand}
 use Rattle.model.specs.Reports.{timestampOf}
 use Rattle.model.specs.Steps.{Act, command, finish, drained, serve, Outcome, around}
 use Rattle.model.specs.Promises.{FitsRoom}
 use Rattle.laws.proofs.Ascending.{length-ascending}
-use Rattle.model.proofs.Walk.{walk, walk-queue}
-use Rattle.model.proofs.Cases.{named, command-cases, finish-cases, drained-cases, step-cases}
+use Rattle.model.proofs.Walk.{walk}
+use Rattle.model.proofs.Cases.{live-cases, command-cases, finish-cases, drained-cases, step-cases}
 use Rattle.model.proofs.WellFormed.{GoodStream, GoodSelf, good-queue-of, well-record}
 use Rattle.model.proofs.ReadBack.{sizeOf, length-response, length-parameters}
 
@@ -65,9 +65,28 @@ succeeds c = omega (arith, size-own c success)
 fails : (c : Request) (e : ErrorCode) → Fits (fail c e)
 fails c e = omega (arith, size-own c (failure e))
 
-live-fits : (k : LiveCommand) (c : Request) (b : Stream) → GoodStream b → Fits (onLive k c b)
-unfolding onDestroy onDrain onCreateResource onQueue onDestroyAll onClear onGet onSet
-live-fits destroy c b g =
+queue-fits : (k : QueueCommand) (c : Request) (b : Stream) (q : QueueType) → GoodStream b → Fits (onQueueOf k c b q)
+unfolding onCreateResource onQueue onDestroyAll onClear onGet onSet
+queue-fits createResource c b q g = walk Fits c _ (fails c) (λ h₁ h₂ h₃ h₄ h₅ h₆ h₇. succeeds c)
+queue-fits queueResource c b q g = walk Fits c _ (fails c) (λ h₁ h₂ h₃ h₄ h₅. omega arith)
+queue-fits destroyAll c b q g = walk Fits c _ (fails c) (λ h. succeeds c)
+queue-fits clear c b q g =
+    let n = c .stream in
+    let d = drainAnswers n (drainEnded q b) in
+    omega (
+      arith,
+      size-append (stoppedAnswers n q (buffers q b)) (d ++ own c success ∷ []),
+      size-append d (own c success ∷ []),
+      stopped-fit n q b g,
+      size-drain n (drainEnded q b),
+      size-own c success,
+    )
+queue-fits getParameters c b q g = omega (arith, size-own c (parameters (parameterWords q b)), length-parameters q b)
+queue-fits setParameters c b q g = walk Fits c _ (fails c) (λ h₁ h₂ h₃ h₄. succeeds c)
+
+destroy-fits : (c : Request) (b : Stream) → GoodStream b → Fits (onDestroy c b)
+unfolding onDestroy
+destroy-fits c b g =
     let n = c .stream in
     let i = stoppedAnswers n input (buffers input b) in
     let o = stoppedAnswers n output (buffers output b) in
@@ -82,28 +101,10 @@ live-fits destroy c b g =
       size-drain n (b .draining),
       size-own c success,
     )
-live-fits drain c b g = walk Fits c _ (fails c) (λ h. omega arith)
-live-fits createResource c b g = walk-queue Fits c (named c) _ (fails c) (λ q e h₁ h₂ h₃ h₄ h₅ h₆ h₇. succeeds c)
-live-fits queueResource c b g = walk-queue Fits c (named c) _ (fails c) (λ q e h₁ h₂ h₃ h₄ h₅. omega arith)
-live-fits destroyAll c b g = walk-queue Fits c (named c) _ (fails c) (λ q e h. succeeds c)
-live-fits clear c b g =
-    walk-queue Fits c (named c) _ (fails c) (λ q e.
-    let n = c .stream in
-    let d = drainAnswers n (drainEnded q b) in
-    omega (
-      arith,
-      size-append (stoppedAnswers n q (buffers q b)) (d ++ own c success ∷ []),
-      size-append d (own c success ∷ []),
-      stopped-fit n q b g,
-      size-drain n (drainEnded q b),
-      size-own c success,
-    ))
-live-fits getParameters c b g =
-    walk-queue Fits c (named c) _ (fails c) (λ q e. omega (arith, size-own c (parameters (parameterWords q b)), length-parameters q b))
-live-fits setParameters c b g = walk-queue Fits c (named c) _ (fails c) (λ q e h₁ h₂ h₃ h₄. succeeds c)
-live-fits queryControl c b g = fails c unsupportedControl
-live-fits getControl c b g = fails c unsupportedControl
-live-fits setControl c b g = fails c unsupportedControl
+
+live-fits : (k : LiveCommand) (c : Request) (b : Stream) → GoodStream b → Fits (onLive k c b)
+unfolding onDrain
+live-fits k c b g = live-cases Fits c b (fails c) (destroy-fits c b g) (walk Fits c _ (fails c) (λ h. omega arith)) (λ j q. queue-fits j c b q g) k
 
 command-fits : (around : Surroundings) (c : Request) → GoodSelf (c .self) → Fits (onCommand around c)
 unfolding onCreate
@@ -122,4 +123,4 @@ serve-fits around n self (drained k) g = drained-cases Fits n self (omega arith)
 pub fits-room : FitsRoom
 fits-room d s h =
     step-cases (λ (o : Outcome). size (o .answers) ≤ answerRoom) d s (λ k. omega arith)
-    (λ n e. serve-fits (around d) n (recordOf n d) (s .act) (well-record n d h))
+    (λ n e. serve-fits (around d n) n (recordOf n (d .places)) (s .act) (well-record n d h))

@@ -15,7 +15,7 @@ use Rattle.laws.proofs.Same.{same-refl}
 use Rattle.model.specs.Numbers.{tableWords, answerRoom}
 use Rattle.model.specs.Device.{Device, fresh, recordOf}
 use Rattle.model.specs.Answers.{bytesOf}
-use Rattle.model.specs.Steps.{Step, streamOf, Outcome, perform, hostRefusal, step, Entry, entryOf, entriesOf, final}
+use Rattle.model.specs.Steps.{Step, Outcome, perform, hostRefusal, step, Entry, entryOf, entriesOf, final}
 use Rattle.model.specs.WellFormed.{wellFormed, goodAct, goodSteps}
 use Rattle.model.specs.Tables.{Layout, Lawful, Effect, untouched, valid, carriedOut, effect, Freshened, freshen, effectOf, tableEntry, tableEntries, tableFinal}
 use Rattle.model.specs.Promises.{unmarked, FreshShort, FreshLong, NoMarkInTables}
@@ -75,8 +75,8 @@ module _ (L : Layout) (law : Lawful L) (rest : List ℕ) where
         let k : hostRefusal (length t) (length (s .room)) (valid L t) ≡ roomRefusal s = valid-refusal (length t) (length (s .room)) (valid L t) long words-valid in
         decide (eqb (roomRefusal s) 0)
         (λ e.
-        let o = perform d (s .act) (streamOf (s .act)) in
-        let is : effectOf L t s ≡ carriedOut L o t (s .room) = simp (k, e) (ap (λ (x : Device). carriedOut L (perform x (s .act) (streamOf (s .act))) t (s .room)) device-is) in (
+        let o = perform d (s .act) in
+        let is : effectOf L t s ≡ carriedOut L o t (s .room) = simp (k, e) (ap (λ (x : Device). carriedOut L (perform x (s .act)) t (s .room)) device-is) in (
           ap (tableEntry L s) is ∙ (λ i. record {
             step = s;
             refusal = o .refusal;
@@ -129,7 +129,7 @@ module _ (L : Layout) (law : Lawful L) (t : List ℕ) (h : tableWords ≤ length
       ap (λ (x : List ℕ). L .decode (take tableWords (tableFinal L x ss))) start
       ∙ ap (λ (x : List ℕ). L .decode (take tableWords x)) (same-final L law rest fresh ss well-fresh m)
       ∙ device-is L law rest (final fresh ss) (final-well fresh ss well-fresh m) in
-      λ i. record { entries = entries i; held = λ n. recordOf n (held i) }
+      λ i. record { entries = entries i; held = λ n. recordOf n (held i .places) }
 
   end-valid : (ss : List Step) → goodSteps ss ≡ true → valid L (tableFinal L (freshen L t .table) ss) ≡ true
   end-valid ss m =
@@ -197,7 +197,7 @@ fresh-long L law t h =
 pub no-mark-in-tables : (L : Layout) → Lawful L → NoMarkInTables L
 no-mark-in-tables L law t ss h m =
     let rest = drop tableWords t in
-    ap (λ (x : List ℕ). allOf unmarked (L .decode (take tableWords (tableFinal L x ss)))) (start L law t h)
-    ∙ ap (λ (x : List ℕ). allOf unmarked (L .decode (take tableWords x))) (same-final L law rest fresh ss well-fresh m)
-    ∙ ap (allOf unmarked) (device-is L law rest (final fresh ss) (final-well fresh ss well-fresh m))
+    ap (λ (x : List ℕ). allOf unmarked (L .decode (take tableWords (tableFinal L x ss)) .places)) (start L law t h)
+    ∙ ap (λ (x : List ℕ). allOf unmarked (L .decode (take tableWords x) .places)) (same-final L law rest fresh ss well-fresh m)
+    ∙ ap (λ (d : Device). allOf unmarked (d .places)) (device-is L law rest (final fresh ss) (final-well fresh ss well-fresh m))
     ∙ no-mark ss

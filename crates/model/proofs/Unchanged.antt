@@ -14,17 +14,17 @@ use Rattle.laws.proofs.Lists.{decide}
 use Rattle.laws.proofs.Same.{same-true}
 use Rattle.field.specs.Field.{field, littleEndian}
 use Rattle.model.specs.Numbers.{tableWords}
-use Rattle.model.specs.Device.{Stream, Device, recordOf, put}
+use Rattle.model.specs.Device.{Stream, Device, recordOf, put, withPlaces, putBack}
 use Rattle.model.specs.Answers.{ErrorCode, failure, words, responseBytes, bytesOf, answersIn}
 use Rattle.model.specs.Replies.{Reply, refuse}
-use Rattle.model.specs.Steps.{Act, command, finish, drained, Step, streamOf, serve, Outcome, refused, around, perform, hostRefusal, step, accepted, entryOf}
+use Rattle.model.specs.Steps.{Act, command, finish, drained, Step, streamOf, serve, Outcome, refused, around, performOf, perform, hostRefusal, step, accepted, entryOf}
 use Rattle.model.specs.WellFormed.{wellFormed, goodAct}
 use Rattle.model.specs.Tables.{Layout, Lawful, Effect, untouched, valid, carriedOut, effect, tableEntry}
 use Rattle.model.specs.Promises.{written, RefusalChangesNothing, OneError, ErrorChangesNothing, RestStays, KeepsRest, StaysValid, WritesAtMost}
 use Rattle.model.specs.Ledger.{ticketIn}
 use Rattle.model.proofs.Places.{put-self}
 use Rattle.model.proofs.Cases.{finish-cases, drained-cases}
-use Rattle.model.proofs.WellFormed.{well-apart, stays-well-formed}
+use Rattle.model.proofs.WellFormed.{well-places, stays-well-formed}
 use Rattle.model.proofs.ReadBack.{read-back}
 use Rattle.model.proofs.Room.{fits-room}
 use Rattle.model.proofs.Fits.{fails, acceptedReply, Rejected, byHost, byError, FitsAct, serve-fits}
@@ -42,7 +42,7 @@ data NotAccepted (d : Device) (a : Act) : Outcome → Type 0 where
       → NotAccepted d a (record { refusal = 0; answers = record { ticket = t; stream = field 4 f 4; response = failure e } ∷ []; device = d })
 
 abbrev outcomeOf : Device → ℕ → Reply → Outcome
-outcomeOf d n v = record { refusal = v .refusal; answers = v .answers; device = put n (v .next) d }
+outcomeOf d n v = record { refusal = v .refusal; answers = v .answers; device = putBack n (v .next) d }
 
 -- a report that is not accepted has a number
 abbrev Numbered : Reply → Type 0
@@ -50,10 +50,10 @@ Numbered v = acceptedReply v ≡ false → eqb (v .refusal) 0 ≡ false
 
 module _ (d : Device) (h : wellFormed d ≡ true) (n : ℕ) where
   abbrev self : Option Stream
-  self = recordOf n d
+  self = recordOf n (d .places)
 
-  back : put n self d ≡ d
-  back = put-self n d (well-apart d h)
+  back : putBack n self d ≡ d
+  back = ap (λ ps. withPlaces ps d) (put-self n (d .places) ((well-places d h) .apart))
 
   by-number : (a : Act) (k : ℕ) → eqb k 0 ≡ false → NotAccepted d a (outcomeOf d n (refuse k self))
   by-number a k z = subst (λ (x : Device). NotAccepted d a (record { refusal = k; answers = []; device = x })) (sym back) (numbered k z)
@@ -73,26 +73,26 @@ module _ (d : Device) (h : wellFormed d ≡ true) (n : ℕ) where
   numbered-report : (a : Act) (v : Reply) → Rejected n (ticketIn a) self v → Numbered v → acceptedReply v ≡ false → NotAccepted d a (outcomeOf d n v)
   numbered-report a v r h acc = report a v r (h acc)
 
-  named : (a : Act) → streamOf a ≡ some n → acceptedReply (serve (around d) n self a) ≡ false → NotAccepted d a (outcomeOf d n (serve (around d) n self a))
+  named : (a : Act) → streamOf a ≡ some n → acceptedReply (serve (around d n) n self a) ≡ false → NotAccepted d a (outcomeOf d n (serve (around d n) n self a))
   unfolding serve
   named a s acc = of a s acc (fit a .rejected (sym (fit a .is) ∙ acc))
     where
-      fit : (a : Act) → FitsAct n a self (serve (around d) n self a)
-      fit a = serve-fits (around d) n self a (sane-record n d h)
+      fit : (a : Act) → FitsAct n a self (serve (around d n) n self a)
+      fit a = serve-fits (around d n) n self a (sane-record n d h)
 
-      of : (a : Act) → streamOf a ≡ some n → acceptedReply (serve (around d) n self a) ≡ false → Rejected n (ticketIn a) self (serve (around d) n self a)
-          → NotAccepted d a (outcomeOf d n (serve (around d) n self a))
-      of (command t f) s acc r = asked t f (serve (around d) n self (command t f)) (stream-is (command t f) n s) r
+      of : (a : Act) → streamOf a ≡ some n → acceptedReply (serve (around d n) n self a) ≡ false → Rejected n (ticketIn a) self (serve (around d n) n self a)
+          → NotAccepted d a (outcomeOf d n (serve (around d n) n self a))
+      of (command t f) s acc r = asked t f (serve (around d n) n self (command t f)) (stream-is (command t f) n s) r
       of (finish m qt x flags ts) s acc r =
-          numbered-report (finish m qt x flags ts) (serve (around d) n self (finish m qt x flags ts)) r
+          numbered-report (finish m qt x flags ts) (serve (around d n) n self (finish m qt x flags ts)) r
           (finish-cases Numbered n qt x flags ts self (λ _. refl) (λ _. refl) (λ q b i e f z. never z)) acc
       of (drained m) s acc r =
-          numbered-report (drained m) (serve (around d) n self (drained m)) r (drained-cases Numbered n self (λ _. refl) (λ b t e f z. never z)) acc
+          numbered-report (drained m) (serve (around d n) n self (drained m)) r (drained-cases Numbered n self (λ _. refl) (λ b t e f z. never z)) acc
 
-not-accepted : (d : Device) (a : Act) → wellFormed d ≡ true → acceptedOutcome (perform d a (streamOf a)) ≡ false → NotAccepted d a (perform d a (streamOf a))
+not-accepted : (d : Device) (a : Act) → wellFormed d ≡ true → acceptedOutcome (perform d a) ≡ false → NotAccepted d a (perform d a)
 not-accepted d a h = of (streamOf a) refl
   where
-    of : (o : Option ℕ) → streamOf a ≡ o → acceptedOutcome (perform d a o) ≡ false → NotAccepted d a (perform d a o)
+    of : (o : Option ℕ) → streamOf a ≡ o → acceptedOutcome (performOf d a o) ≡ false → NotAccepted d a (performOf d a o)
     of none e z = numbered 4 refl
     of (some n) e z = named d h n a e z
 
@@ -106,7 +106,7 @@ module _ (L : Layout) (t : List ℕ) (a : Act) (room : List ℕ) where
   device = L .decode (take tableWords t)
 
   abbrev outcome : Outcome
-  outcome = perform device a (streamOf a)
+  outcome = perform device a
 
   abbrev it : Effect
   it = effect L t a room

@@ -13,17 +13,17 @@ use Rattle.laws.proofs.Tests.{never, both, and-left, and-right}
 use Rattle.laws.proofs.Lists.{decide, cond-elim, eqb-sym}
 use Rattle.field.specs.Field.{field}
 use Rattle.model.specs.Numbers.{streamPlaces, queueSlots, firstCoded, lastCoded, headerBytes}
-use Rattle.model.specs.Device.{QueueType, input, output, State, created, queued, dequeued, Slot, free, resource, Queue, Stream, vacant, occupied, Device, newQueue, newStream, fresh, queueOf, withQueue, withDrain, withSlots, present, addResource, setState, stopped, stopAll, freeAll, recordOf, place, replace, install, put}
-use Rattle.model.specs.Frames.{LiveCommand, destroy, drain, createResource, queueResource, destroyAll, clear, getParameters, setParameters, queryControl, getControl, setControl, word, streamId, codedFormat, resourceId, timestampSent}
+use Rattle.model.specs.Device.{QueueType, input, output, State, created, queued, dequeued, Slot, free, resource, Queue, Stream, Place, vacant, occupied, Device, newQueue, newStream, fresh, queueOf, withQueue, withDrain, withSlots, present, addResource, setState, stopped, stopAll, freeAll, recordOf, place, replace, install, put}
+use Rattle.model.specs.Frames.{QueueCommand, createResource, queueResource, destroyAll, clear, getParameters, setParameters, LiveCommand, word, streamId, codedFormat, resourceId, timestampSent}
 use Rattle.model.specs.Replies.{Reply, Request}
-use Rattle.model.specs.Commands.{Surroundings, onCreate, onDestroy, onDrain, onCreateResource, onQueue, onDestroyAll, onClear, onGet, onSet, onLive, onCommand, drainLeft, cleared, badExtent}
+use Rattle.model.specs.Commands.{Surroundings, onCreate, onDestroy, onDrain, onCreateResource, onQueue, onDestroyAll, onClear, onGet, onSet, onQueueOf, onLive, onCommand, drainLeft, cleared, badExtent}
 use Rattle.model.specs.Steps.{Act, command, finish, drained, streamOf, serve, Outcome, around}
-use Rattle.model.specs.WellFormed.{u8, u32, u64, goodState, goodSlot, distinctSlots, goodSlots, goodQueue, goodDrain, goodStream, goodPlace, distinctPlaces, wellFormed, goodAct}
+use Rattle.model.specs.WellFormed.{u8, u32, u64, goodState, goodSlot, distinctSlots, goodSlots, goodQueue, goodDrain, goodStream, goodPlace, distinctPlaces, goodPlaces, wellFormed, goodAct}
 use Rattle.model.specs.Promises.{StaysWellFormed}
 use Rattle.field.proofs.Laws.{field-below}
 use Rattle.model.proofs.Slots.{Distinct, distinct-set, distinct-stop, distinct-free, distinct-add}
-use Rattle.model.proofs.Walk.{walk, walk-queue}
-use Rattle.model.proofs.Cases.{named, command-cases, finish-cases, drained-cases, step-cases}
+use Rattle.model.proofs.Walk.{walk}
+use Rattle.model.proofs.Cases.{live-cases, command-cases, finish-cases, drained-cases, step-cases}
 use Rattle.model.proofs.Places.{replace-other, replace-absent, install-other, all-record, all-put}
 
 -- Numbers in frames
@@ -214,29 +214,25 @@ module _ (c : Request) (b : Stream) (self : c .self ≡ some b) (g : GoodStream 
   same : GoodSelf (c .self)
   same = subst GoodSelf (sym self) g
 
-  live-good : (k : LiveCommand) → GoodNext (onLive k c b)
-  unfolding onDestroy onDrain onCreateResource onQueue onDestroyAll onClear onGet onSet
-  live-good destroy = tt
-  live-good drain = walk GoodNext c _ (λ e. same) (λ h. good-drain (some (c .ticket)) b g t)
-  live-good createResource =
-      let r = resourceId (c .frame) in
-      walk-queue GoodNext c (named c) _ (λ e. same) (λ q e h₁ h₂ h₃ h₄ h₅ h₆ h₇.
-      good-slots q _ b g (slots-add r (queueOf q b .slots) (word-u32 (c .frame) 12 m) h₆ ((good-queue-of q b g) .slots)))
-  live-good queueResource =
-      walk-queue GoodNext c (named c) _ (λ e. same) (λ q e h₁ h₂ h₃ h₄ h₅.
+  queue-good : (k : QueueCommand) (q : QueueType) → GoodNext (onQueueOf k c b q)
+  unfolding onCreateResource onQueue onDestroyAll onClear onGet onSet
+  queue-good createResource q =
+      walk GoodNext c _ (λ e. same) (λ h₁ h₂ h₃ h₄ h₅ h₆ h₇.
+      good-slots q _ b g (slots-add (resourceId (c .frame)) (queueOf q b .slots) (word-u32 (c .frame) 12 m) h₆ ((good-queue-of q b g) .slots)))
+  queue-good queueResource q =
+      walk GoodNext c _ (λ e. same) (λ h₁ h₂ h₃ h₄ h₅.
       good-slots q _ b g (slots-set (resourceId (c .frame)) (queued (c .ticket) (timestampSent (c .frame))) (queueOf q b .slots)
       (both t (field-u64 (c .frame) 16 m)) ((good-queue-of q b g) .slots)))
-  live-good destroyAll =
-      walk-queue GoodNext c (named c) _ (λ e. same) (λ q e h.
-      good-slots q _ b g (slots-free (queueOf q b .slots) ((good-queue-of q b g) .slots)))
-  live-good clear = walk-queue GoodNext c (named c) _ (λ e. same) (λ q e. good-clear q b g)
-  live-good getParameters = walk-queue GoodNext c (named c) _ (λ e. same) (λ q e. same)
-  live-good setParameters =
-      walk-queue GoodNext c (named c) _ (λ e. same) (λ q e h₁ h₂ h₃ h₄.
+  queue-good destroyAll q = walk GoodNext c _ (λ e. same) (λ h. good-slots q _ b g (slots-free (queueOf q b .slots) ((good-queue-of q b g) .slots)))
+  queue-good clear q = good-clear q b g
+  queue-good getParameters q = same
+  queue-good setParameters q =
+      walk GoodNext c _ (λ e. same) (λ h₁ h₂ h₃ h₄.
       good-with q _ b g (record { slots = (good-queue-of q b g) .slots; width = h₂; height = h₃; rate = word-u32 (c .frame) 48 m }))
-  live-good queryControl = same
-  live-good getControl = same
-  live-good setControl = same
+
+  live-good : (k : LiveCommand) → GoodNext (onLive k c b)
+  unfolding onDestroy onDrain
+  live-good = live-cases GoodNext c b (λ e. same) tt (walk GoodNext c _ (λ e. same) (λ h. good-drain (some (c .ticket)) b g t)) queue-good
 
 command-good : (around : Surroundings) (c : Request) → GoodSelf (c .self) → u32 (c .ticket) ≡ true → allOf u8 (c .frame) ≡ true → GoodNext (onCommand around c)
 unfolding onCreate
@@ -258,27 +254,27 @@ serve-good around n self (drained k) g m =
 
 -- Places
 
-record GoodDevice (d : Device) : Type 0 where
-  size : length d ≡ streamPlaces
-  each : allOf goodPlace d ≡ true
-  apart : distinctPlaces d ≡ true
+pub record GoodPlaces (ps : List Place) : Type 0 where
+  pub size : length ps ≡ streamPlaces
+  pub each : allOf goodPlace ps ≡ true
+  pub apart : distinctPlaces ps ≡ true
 
-device-is : (d : Device) → wellFormed d ≡ true → GoodDevice d
-unfolding wellFormed
-device-is d h =
-    let r = and-right (eqb (length d) streamPlaces) _ h in
+pub places-are : (ps : List Place) → goodPlaces ps ≡ true → GoodPlaces ps
+places-are ps h =
+    let r = and-right (eqb (length ps) streamPlaces) _ h in
     record {
-      size = eqb-true _ _ (and-left (eqb (length d) streamPlaces) _ h);
-      each = and-left (allOf goodPlace d) _ r;
-      apart = and-right (allOf goodPlace d) _ r;
+      size = eqb-true _ _ (and-left (eqb (length ps) streamPlaces) _ h);
+      each = and-left (allOf goodPlace ps) _ r;
+      apart = and-right (allOf goodPlace ps) _ r;
     }
 
-is-device : (d : Device) → GoodDevice d → wellFormed d ≡ true
-unfolding wellFormed
-is-device d g = both (eq-eqb (length d) streamPlaces (g .size)) (both (g .each) (g .apart))
+are-places : (ps : List Place) → GoodPlaces ps → goodPlaces ps ≡ true
+are-places ps g = both (eq-eqb (length ps) streamPlaces (g .size)) (both (g .each) (g .apart))
 
-pub well-apart : (d : Device) → wellFormed d ≡ true → distinctPlaces d ≡ true
-well-apart d h = (device-is d h) .apart
+-- the places of a well-formed device
+pub well-places : (d : Device) → wellFormed d ≡ true → GoodPlaces (d .places)
+unfolding wellFormed
+well-places d h = places-are (d .places) h
 
 self-is : (n : ℕ) (r : Option Stream) → goodPlace (place n r) ≡ true → GoodSelf r
 self-is n none h = tt
@@ -288,54 +284,54 @@ is-self : (n : ℕ) (r : Option Stream) → u32 n ≡ true → GoodSelf r → go
 is-self n none u g = refl
 is-self n (some b) u g = both u (is-stream b g)
 
-pub well-record : (n : ℕ) (d : Device) → wellFormed d ≡ true → GoodSelf (recordOf n d)
-well-record n d h = self-is n (recordOf n d) (all-record goodPlace n refl d ((device-is d h) .each))
+pub well-record : (n : ℕ) (d : Device) → wellFormed d ≡ true → GoodSelf (recordOf n (d .places))
+well-record n d h = self-is n (recordOf n (d .places)) (all-record goodPlace n refl (d .places) ((well-places d h) .each))
 
 module _ (n : ℕ) (r : Option Stream) where
-  length-replace : (d : Device) → length (replace n r d) ≡ length d
+  length-replace : (ps : List Place) → length (replace n r ps) ≡ length ps
   length-replace [] = refl
-  length-replace (vacant ∷ d) = ap suc (length-replace d)
-  length-replace (occupied m b ∷ d) = ap suc (length-replace d)
+  length-replace (vacant ∷ ps) = ap suc (length-replace ps)
+  length-replace (occupied m b ∷ ps) = ap suc (length-replace ps)
 
-  length-install : (d : Device) → length (install n r d) ≡ length d
+  length-install : (ps : List Place) → length (install n r ps) ≡ length ps
   length-install [] = refl
-  length-install (vacant ∷ d) = refl
-  length-install (occupied m b ∷ d) = ap suc (length-install d)
+  length-install (vacant ∷ ps) = refl
+  length-install (occupied m b ∷ ps) = ap suc (length-install ps)
 
-  length-put : (d : Device) → length (put n r d) ≡ length d
+  length-put : (ps : List Place) → length (put n r ps) ≡ length ps
   unfolding put
-  length-put d = cond-elim (λ (x : Device). length x ≡ length d) (isNone (recordOf n d)) (λ _. length-install d) (λ _. length-replace d)
+  length-put ps = cond-elim (λ (x : List Place). length x ≡ length ps) (isNone (recordOf n ps)) (λ _. length-install ps) (λ _. length-replace ps)
 
-apart-replace : (n : ℕ) (r : Option Stream) (d : Device) → distinctPlaces d ≡ true → distinctPlaces (replace n r d) ≡ true
+apart-replace : (n : ℕ) (r : Option Stream) (ps : List Place) → distinctPlaces ps ≡ true → distinctPlaces (replace n r ps) ≡ true
 apart-replace n r [] h = refl
-apart-replace n r (vacant ∷ d) h = apart-replace n r d h
-apart-replace n r (occupied m b ∷ d) h =
-    let here = and-left (isNone (recordOf m d)) _ h in
-    let rest = and-right (isNone (recordOf m d)) _ h in
+apart-replace n r (vacant ∷ ps) h = apart-replace n r ps h
+apart-replace n r (occupied m b ∷ ps) h =
+    let here = and-left (isNone (recordOf m ps)) _ h in
+    let rest = and-right (isNone (recordOf m ps)) _ h in
     decide (eqb m n)
-    (λ e. simp e (taken r (subst (λ (x : ℕ). isNone (recordOf x d) ≡ true) (eqb-true m n e) here) rest))
-    (λ e. simp e (both (ap isNone (replace-other m n r d (eqb-sym m n e)) ∙ here) (apart-replace n r d rest)))
+    (λ e. simp e (taken r (subst (λ (x : ℕ). isNone (recordOf x ps) ≡ true) (eqb-true m n e) here) rest))
+    (λ e. simp e (both (ap isNone (replace-other m n r ps (eqb-sym m n e)) ∙ here) (apart-replace n r ps rest)))
   where
-    taken : (x : Option Stream) → isNone (recordOf n d) ≡ true → distinctPlaces d ≡ true → distinctPlaces (place n x ∷ replace n r d) ≡ true
-    taken none q z = simp (replace-absent n r d q) z
-    taken (some c) q z = simp (replace-absent n r d q) (both q z)
+    taken : (x : Option Stream) → isNone (recordOf n ps) ≡ true → distinctPlaces ps ≡ true → distinctPlaces (place n x ∷ replace n r ps) ≡ true
+    taken none q z = simp (replace-absent n r ps q) z
+    taken (some c) q z = simp (replace-absent n r ps q) (both q z)
 
-apart-install : (n : ℕ) (r : Option Stream) (d : Device) → isNone (recordOf n d) ≡ true → distinctPlaces d ≡ true → distinctPlaces (install n r d) ≡ true
+apart-install : (n : ℕ) (r : Option Stream) (ps : List Place) → isNone (recordOf n ps) ≡ true → distinctPlaces ps ≡ true → distinctPlaces (install n r ps) ≡ true
 apart-install n r [] q h = refl
-apart-install n none (vacant ∷ d) q h = h
-apart-install n (some c) (vacant ∷ d) q h = both q h
-apart-install n r (occupied m b ∷ d) q h =
+apart-install n none (vacant ∷ ps) q h = h
+apart-install n (some c) (vacant ∷ ps) q h = both q h
+apart-install n r (occupied m b ∷ ps) q h =
     decide (eqb m n) (λ e. never (sym (simp e at q)))
-    (λ e. both (ap isNone (install-other m n r d (eqb-sym m n e)) ∙ and-left (isNone (recordOf m d)) _ h)
-    (apart-install n r d (simp e at q) (and-right (isNone (recordOf m d)) _ h)))
+    (λ e. both (ap isNone (install-other m n r ps (eqb-sym m n e)) ∙ and-left (isNone (recordOf m ps)) _ h)
+    (apart-install n r ps (simp e at q) (and-right (isNone (recordOf m ps)) _ h)))
 
-apart-put : (n : ℕ) (r : Option Stream) (d : Device) → distinctPlaces d ≡ true → distinctPlaces (put n r d) ≡ true
+apart-put : (n : ℕ) (r : Option Stream) (ps : List Place) → distinctPlaces ps ≡ true → distinctPlaces (put n r ps) ≡ true
 unfolding put
-apart-put n r d h = cond-elim (λ x. distinctPlaces x ≡ true) (isNone (recordOf n d)) (λ e. apart-install n r d e h) (λ _. apart-replace n r d h)
+apart-put n r ps h = cond-elim (λ x. distinctPlaces x ≡ true) (isNone (recordOf n ps)) (λ e. apart-install n r ps e h) (λ _. apart-replace n r ps h)
 
-put-good : (n : ℕ) (r : Option Stream) (d : Device) → u32 n ≡ true → GoodSelf r → GoodDevice d → GoodDevice (put n r d)
-put-good n r d u g h =
-    record { size = length-put n r d ∙ h .size; each = all-put goodPlace n r (is-self n r u g) d (h .each); apart = apart-put n r d (h .apart) }
+put-good : (n : ℕ) (r : Option Stream) (ps : List Place) → u32 n ≡ true → GoodSelf r → GoodPlaces ps → GoodPlaces (put n r ps)
+put-good n r ps u g h =
+    record { size = length-put n r ps ∙ h .size; each = all-put goodPlace n r (is-self n r u g) ps (h .each); apart = apart-put n r ps (h .apart) }
 
 stream-u32 : (a : Act) (n : ℕ) → goodAct a ≡ true → streamOf a ≡ some n → u32 n ≡ true
 unfolding streamOf
@@ -351,6 +347,8 @@ unfolding wellFormed fresh
 well-fresh = refl
 
 pub stays-well-formed : StaysWellFormed
+unfolding wellFormed
 stays-well-formed d s h m =
-    step-cases (λ (o : Outcome). wellFormed (o .device) ≡ true) d s (λ k. h)
-    (λ n e. is-device _ (put-good n _ d (stream-u32 (s .act) n m e) (serve-good (around d) n (recordOf n d) (s .act) (well-record n d h) m) (device-is d h)))
+    step-cases (λ (o : Outcome). goodPlaces (o .device .places) ≡ true) d s (λ k. h)
+    (λ n e. are-places _ (put-good n _ (d .places) (stream-u32 (s .act) n m e)
+    (serve-good (around d n) n (recordOf n (d .places)) (s .act) (well-record n d h) m) (places-are (d .places) h)))

@@ -1,5 +1,6 @@
 -- What each command does to the record of its own stream: document 01, "Guest errors" and "The commands". Of the other streams a command
--- sees only its surroundings, and only a creation looks at them. In each definition c is the request, f its frame, b the stream's record.
+-- sees only its surroundings, and only a creation looks at them. In each definition c is the request, f its frame, b the stream's record and q
+-- the queue that the frame names.
 use Prim.Native.Nat.{ℕ, zero, suc, _+_, _*_, _/_, _%_, _^_}
 use mathlib.Core.Bool.{Bool, true, false, cond, not, _&&_, _||_}
 use mathlib.Core.Option.{Option, none, some}
@@ -11,13 +12,17 @@ use Rattle.laws.specs.Lists.{isEmpty, isNone, toList, total}
 use Rattle.tag.specs.Tag.{goodTag, tagIn}
 use Rattle.model.specs.Numbers.{queueSlots, maxPlanes, firstCoded, lastCoded, nv12, err}
 use Rattle.model.specs.Device.{QueueType, input, output, queued, Queue, Stream, newStream, queueOf, withQueue, withDrain, withSlots, Buffer, queuedIn, buffers, bufferOf, present, noSlot, addResource, setState, stopAll, freeAll}
-use Rattle.model.specs.Frames.{LiveCommand, destroy, drain, createResource, queueResource, destroyAll, clear, getParameters, setParameters, queryControl, getControl, setControl, Command, create, live, CommandLine, commandOf, wrongLength, queueNumber, queueNamed, commandType, inMemType, outMemType, codedFormat, queueType, resourceId, planesLayout, numPlanes, numEntries, entriesStart, entries, entryBytes, entryAddr, entryLength, timestampSent, numDataSizes, formatSent, frameWidth, frameHeight, frameRate}
+use Rattle.model.specs.Frames.{QueueCommand, createResource, queueResource, destroyAll, clear, getParameters, setParameters, LiveCommand, destroy, drain, control, toQueue, Command, create, live, CommandLine, commandOf, wrongLength, queueNumber, queueNamed, commandType, inMemType, outMemType, codedFormat, queueType, resourceId, planesLayout, numPlanes, numEntries, entriesStart, entries, entryBytes, entryAddr, entryLength, timestampSent, numDataSizes, formatSent, frameWidth, frameHeight, frameRate}
 use Rattle.model.specs.Answers.{invalidOperation, outOfMemory, invalidStream, invalidResource, invalidParameter, unsupportedControl, success, bufferDone, drainDone, parameters, Answer}
-use Rattle.model.specs.Replies.{Reply, reply, Request, own, fail, Tests, accept, _⇒_then_, first, forQueue}
+use Rattle.model.specs.Replies.{Reply, reply, Request, own, fail, Tests, accept, _⇒_then_, first}
 
--- what a creation sees of the other streams: whether every stream place holds something
+-- what a creation sees besides its own stream: whether every stream place holds something
 pub record Surroundings : Type 0 where
   pub full : Bool
+
+-- the same surroundings, full or not
+abbrev pub withFull : Bool → Surroundings → Surroundings
+withFull f around = record { full = f }
 
 -- plain success, and the record that is left
 abbrev pub succeed : Request → Option Stream → Tests
@@ -64,15 +69,14 @@ badEntry zero es = false
 badEntry (suc k) es = eqb (entryLength es) 0 || (ltb (2 ^ 64) (entryAddr es + entryLength es) || badEntry k (drop entryBytes es))
 
 -- 0x0104 resource create; `sum` is the true sum of the entry counts of the planes
-unfoldable pub onCreateResource : Request → Stream → Reply
-onCreateResource c b =
+unfoldable pub onCreateResource : Request → Stream → QueueType → Reply
+onCreateResource c b q =
     let f = c .frame in
     let r = resourceId f in
+    let s = queueOf q b .slots in
     let sum = total (take (numPlanes f) (numEntries f)) in
     first c
-    (forQueue (queueNamed (queueType f)) λ q.
-    let s = queueOf q b .slots in
-    not (within (planesLayout f) 1 2) ⇒ invalidParameter then
+    (not (within (planesLayout f) 1 2) ⇒ invalidParameter then
     not (within (numPlanes f) 1 maxPlanes) ⇒ invalidParameter then
     not (within sum 1 256) ⇒ invalidParameter then
     not (eqb (length f) (entriesStart + entryBytes * sum)) ⇒ invalidParameter then
@@ -87,14 +91,13 @@ isInput input = true
 isInput output = false
 
 -- 0x0105 queue: no answer now, the ticket and timestamp are kept
-unfoldable pub onQueue : Request → Stream → Reply
-onQueue c b =
+unfoldable pub onQueue : Request → Stream → QueueType → Reply
+onQueue c b q =
     let f = c .frame in
     let r = resourceId f in
-    first c
-    (forQueue (queueNamed (queueType f)) λ q.
     let s = queueOf q b .slots in
-    ltb maxPlanes (numDataSizes f) ⇒ invalidParameter then
+    first c
+    (ltb maxPlanes (numDataSizes f) ⇒ invalidParameter then
     isInput q && not (isNone (b .draining)) ⇒ invalidOperation then
     queueOf q b .clearing ⇒ invalidOperation then
     not (present r s) ⇒ invalidResource then
@@ -102,12 +105,11 @@ onQueue c b =
     accept (reply [] (some (withQueue q (withSlots (setState r (queued (c .ticket) (timestampSent f)) s) (queueOf q b)) b))))
 
 -- 0x0106 destroy all
-unfoldable pub onDestroyAll : Request → Stream → Reply
-onDestroyAll c b =
-    first c
-    (forQueue (queueNamed (queueType (c .frame))) λ q.
+unfoldable pub onDestroyAll : Request → Stream → QueueType → Reply
+onDestroyAll c b q =
     let s = queueOf q b .slots in
-    not (isEmpty (queuedIn s)) ⇒ invalidOperation then
+    first c
+    (not (isEmpty (queuedIn s)) ⇒ invalidOperation then
     succeed c (some (withQueue q (withSlots (freeAll s) (queueOf q b)) b)))
 
 -- the drain that a clear ends: the input queue's clear ends an owed drain, the output queue's none
@@ -125,14 +127,12 @@ abbrev pub cleared : Queue → Queue
 cleared q = record { width = q .width; height = q .height; rate = q .rate; clearing = false; slots = stopAll (q .slots) }
 
 -- 0x0107 clear: the queue's Queued buffers, for input an owed drain, itself
-unfoldable pub onClear : Request → Stream → Reply
-onClear c b =
+unfoldable pub onClear : Request → Stream → QueueType → Reply
+onClear c b q =
     let n = c .stream in
-    first c
-    (forQueue (queueNamed (queueType (c .frame))) λ q.
-    accept (reply
+    reply
     (stoppedAnswers n q (buffers q b) ++ (drainAnswers n (drainEnded q b) ++ own c success ∷ []))
-    (some (withQueue q (cleared (queueOf q b)) (withDrain (drainLeft q b) b)))))
+    (some (withQueue q (cleared (queueOf q b)) (withDrain (drainLeft q b) b)))
 
 -- the plane count and its 8 pairs of size and stride
 abbrev pub planes : QueueType → Queue → List ℕ
@@ -151,11 +151,8 @@ parameterWords t b =
     queueNumber t ∷ formatOf t b ∷ q .width ∷ q .height ∷ 1 ∷ queueSlots ∷ 0 ∷ 0 ∷ q .width ∷ q .height ∷ q .rate ∷ planes t q
 
 -- 0x0108 get
-unfoldable pub onGet : Request → Stream → Reply
-onGet c b =
-    first c
-    (forQueue (queueNamed (queueType (c .frame))) λ q.
-    accept (reply (own c (parameters (parameterWords q b)) ∷ []) (c .self)))
+unfoldable pub onGet : Request → Stream → QueueType → Reply
+onGet c b q = reply (own c (parameters (parameterWords q b)) ∷ []) (c .self)
 
 -- a good width or height: from 16 to 4,096, and even
 abbrev pub goodExtent : ℕ → Bool
@@ -170,30 +167,36 @@ abbrev pub withParameters : ℕ → ℕ → ℕ → Queue → Queue
 withParameters w h rate q = record { width = w; height = h; rate = rate; clearing = q .clearing; slots = q .slots }
 
 -- 0x0109 set
-unfoldable pub onSet : Request → Stream → Reply
-onSet c b =
+unfoldable pub onSet : Request → Stream → QueueType → Reply
+onSet c b q =
     let f = c .frame in
     first c
-    (forQueue (queueNamed (queueType f)) λ q.
-    not (eqb (formatSent f) (formatOf q b)) ⇒ invalidParameter then
+    (not (eqb (formatSent f) (formatOf q b)) ⇒ invalidParameter then
     badExtent (frameWidth f) ⇒ invalidParameter then
     badExtent (frameHeight f) ⇒ invalidParameter then
     not (isEmpty (queuedIn (queueOf q b .slots))) ⇒ invalidOperation then
     succeed c (some (withQueue q (withParameters (frameWidth f) (frameHeight f) (frameRate f) (queueOf q b)) b)))
 
+-- a command to a queue
+abbrev pub onQueueOf : QueueCommand → Request → Stream → QueueType → Reply
+onQueueOf createResource c b q = onCreateResource c b q
+onQueueOf queueResource c b q = onQueue c b q
+onQueueOf destroyAll c b q = onDestroyAll c b q
+onQueueOf clear c b q = onClear c b q
+onQueueOf getParameters c b q = onGet c b q
+onQueueOf setParameters c b q = onSet c b q
+
+-- the queue is named first in each of their lists; a bad queue type is an invalid parameter
+abbrev pub onNamed : QueueCommand → Request → Stream → Option QueueType → Reply
+onNamed k c b none = fail c invalidParameter
+onNamed k c b (some q) = onQueueOf k c b q
+
 -- a command to a live stream
 abbrev pub onLive : LiveCommand → Request → Stream → Reply
 onLive destroy c b = onDestroy c b
 onLive drain c b = onDrain c b
-onLive createResource c b = onCreateResource c b
-onLive queueResource c b = onQueue c b
-onLive destroyAll c b = onDestroyAll c b
-onLive clear c b = onClear c b
-onLive getParameters c b = onGet c b
-onLive setParameters c b = onSet c b
-onLive queryControl c b = fail c unsupportedControl
-onLive getControl c b = fail c unsupportedControl
-onLive setControl c b = fail c unsupportedControl
+onLive control c b = fail c unsupportedControl
+onLive (toQueue k) c b = onNamed k c b (queueNamed (queueType (c .frame)))
 
 -- The order that all commands share: the type, the length, whether the stream is live, the command's own list
 

@@ -63,7 +63,7 @@ pub record Condition3 (run : Run) (alone : List Step → Run) : Type 0 where
 
 -- a list on a fresh device
 abbrev pub onDevice : List Step → Run
-onDevice ss = record { entries = entriesOf fresh ss; held = λ n. recordOf n (final fresh ss) }
+onDevice ss = record { entries = entriesOf fresh ss; held = λ n. recordOf n (final fresh ss .places) }
 
 -- condition 3 for every list in the host's types
 abbrev pub OnDevices : Type 0
@@ -75,7 +75,7 @@ OnDevices = (ss : List Step) → goodSteps ss ≡ true → Condition3 (onDevice 
 abbrev pub onTable : Layout → List ℕ → List Step → Run
 onTable L t ss =
     let start = freshen L t .table in
-    record { entries = tableEntries L start ss; held = λ n. recordOf n (L .decode (take tableWords (tableFinal L start ss))) }
+    record { entries = tableEntries L start ss; held = λ n. recordOf n (L .decode (take tableWords (tableFinal L start ss)) .places) }
 
 -- condition 3 for every list, and the table is valid at its end
 abbrev pub OnTables : Layout → Type 0

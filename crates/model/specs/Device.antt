@@ -46,12 +46,12 @@ pub data Place : Type 0 where
   occupied : (number : ℕ) → Stream → Place
 
 -- eight places
-abbrev pub Device : Type 0
-Device = List Place
+pub record Device : Type 0 where
+  pub places : List Place
 
 -- no stream
 unfoldable pub fresh : Device
-fresh = replicate streamPlaces vacant
+fresh = record { places = replicate streamPlaces vacant }
 
 -- what a creation leaves: 640 by 480, rate 0, no mark, no resources
 abbrev pub newQueue : Queue
@@ -160,16 +160,16 @@ freeAll (p ∷ s) = free ∷ freeAll s
 -- Places
 
 -- the record of a stream number, if it is live
-abbrev pub recordOf : ℕ → Device → Option Stream
+abbrev pub recordOf : ℕ → List Place → Option Stream
 recordOf n [] = none
-recordOf n (vacant ∷ d) = recordOf n d
-recordOf n (occupied m b ∷ d) = cond (eqb m n) (some b) (recordOf n d)
+recordOf n (vacant ∷ ps) = recordOf n ps
+recordOf n (occupied m b ∷ ps) = cond (eqb m n) (some b) (recordOf n ps)
 
 -- every place holds something
-abbrev pub noPlace : Device → Bool
+abbrev pub noPlace : List Place → Bool
 noPlace [] = true
-noPlace (vacant ∷ d) = false
-noPlace (occupied m b ∷ d) = noPlace d
+noPlace (vacant ∷ ps) = false
+noPlace (occupied m b ∷ ps) = noPlace ps
 
 -- the place of a stream with a record, or with none
 abbrev pub place : ℕ → Option Stream → Place
@@ -177,17 +177,27 @@ place n none = vacant
 place n (some b) = occupied n b
 
 -- the place of a live number gets its new record, or becomes vacant
-abbrev pub replace : ℕ → Option Stream → Device → Device
+abbrev pub replace : ℕ → Option Stream → List Place → List Place
 replace n r [] = []
-replace n r (vacant ∷ d) = vacant ∷ replace n r d
-replace n r (occupied m b ∷ d) = cond (eqb m n) (place n r) (occupied m b) ∷ replace n r d
+replace n r (vacant ∷ ps) = vacant ∷ replace n r ps
+replace n r (occupied m b ∷ ps) = cond (eqb m n) (place n r) (occupied m b) ∷ replace n r ps
 
 -- a new stream in the lowest vacant place
-abbrev pub install : ℕ → Option Stream → Device → Device
+abbrev pub install : ℕ → Option Stream → List Place → List Place
 install n r [] = []
-install n r (vacant ∷ d) = place n r ∷ d
-install n r (occupied m b ∷ d) = occupied m b ∷ install n r d
+install n r (vacant ∷ ps) = place n r ∷ ps
+install n r (occupied m b ∷ ps) = occupied m b ∷ install n r ps
 
 -- the record of n put back after a step of n
-unfoldable pub put : ℕ → Option Stream → Device → Device
-put n r d = cond (isNone (recordOf n d)) (install n r d) (replace n r d)
+unfoldable pub put : ℕ → Option Stream → List Place → List Place
+put n r ps = cond (isNone (recordOf n ps)) (install n r ps) (replace n r ps)
+
+-- The device
+
+-- the device with other places
+abbrev pub withPlaces : List Place → Device → Device
+withPlaces ps d = record { places = ps }
+
+-- the device after a step of n that leaves the record r
+abbrev pub putBack : ℕ → Option Stream → Device → Device
+putBack n r d = withPlaces (put n r (d .places)) d

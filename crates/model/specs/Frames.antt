@@ -18,9 +18,14 @@ infix 80 _is_ofLength_
 abbrev pub entriesStart : ℕ
 entriesStart = 88
 
--- those to a live stream
+-- those to a queue of a live stream: each names it in the same field
+pub data QueueCommand : Type 0 where
+  createResource queueResource destroyAll clear getParameters setParameters : QueueCommand
+
+-- those to a live stream; of controls none is known
 pub data LiveCommand : Type 0 where
-  destroy drain createResource queueResource destroyAll clear getParameters setParameters queryControl getControl setControl : LiveCommand
+  destroy drain control : LiveCommand
+  toQueue : QueueCommand → LiveCommand
 
 -- all commands: only a creation is for a stream that is not live
 pub data Command : Type 0 where
@@ -47,15 +52,15 @@ commands =
     createType is create ofLength exactly createLength
     ∷ 0x0102 is live destroy ofLength exactly 8
     ∷ 0x0103 is live drain ofLength exactly 8
-    ∷ 0x0104 is live createResource ofLength atLeast entriesStart
-    ∷ 0x0105 is live queueResource ofLength exactly 64
-    ∷ 0x0106 is live destroyAll ofLength exactly 16
-    ∷ 0x0107 is live clear ofLength exactly 16
-    ∷ 0x0108 is live getParameters ofLength exactly 16
-    ∷ 0x0109 is live setParameters ofLength exactly 120
-    ∷ 0x010A is live queryControl ofLength exactly 16
-    ∷ 0x010B is live getControl ofLength exactly 16
-    ∷ 0x010C is live setControl ofLength atLeast 16
+    ∷ 0x0104 is live (toQueue createResource) ofLength atLeast entriesStart
+    ∷ 0x0105 is live (toQueue queueResource) ofLength exactly 64
+    ∷ 0x0106 is live (toQueue destroyAll) ofLength exactly 16
+    ∷ 0x0107 is live (toQueue clear) ofLength exactly 16
+    ∷ 0x0108 is live (toQueue getParameters) ofLength exactly 16
+    ∷ 0x0109 is live (toQueue setParameters) ofLength exactly 120
+    ∷ 0x010A is live control ofLength exactly 16
+    ∷ 0x010B is live control ofLength exactly 16
+    ∷ 0x010C is live control ofLength atLeast 16
     ∷ []
 
 -- the line of a type

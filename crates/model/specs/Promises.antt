@@ -32,7 +32,7 @@ unmarked (occupied n b) = not (b .inputs .clearing) && not (b .outputs .clearing
 
 -- no reached device carries a clear-in-progress mark
 abbrev pub NoMark : Type 0
-NoMark = (ss : List Step) → allOf unmarked (final fresh ss) ≡ true
+NoMark = (ss : List Step) → allOf unmarked (final fresh ss .places) ≡ true
 
 -- an answer as it should stand in the room
 abbrev pub written : Answer → Written
@@ -49,7 +49,7 @@ isLive (occupied n b) = true
 
 -- 'out of memory' to a creation only where all eight places hold a stream
 abbrev pub FullAtEight : Type 0
-FullAtEight = (d : Device) (s : Step) → wellFormed d ≡ true → outOfMemoryAt (entryOf s (step d s)) ≡ true → count isLive d ≡ 8
+FullAtEight = (d : Device) (s : Step) → wellFormed d ≡ true → outOfMemoryAt (entryOf s (step d s)) ≡ true → count isLive (d .places) ≡ 8
 
 -- Over tables, of any words and any room
 
@@ -131,4 +131,4 @@ WritesAtMost L = (t : List ℕ) (a : Act) (room : List ℕ) → effect L t a roo
 abbrev pub NoMarkInTables : Layout → Type 0
 NoMarkInTables L =
     (t : List ℕ) (ss : List Step) → tableWords ≤ length t → goodSteps ss ≡ true
-    → allOf unmarked (L .decode (take tableWords (tableFinal L (freshen L t .table) ss))) ≡ true
+    → allOf unmarked (L .decode (take tableWords (tableFinal L (freshen L t .table) ss)) .places) ≡ true

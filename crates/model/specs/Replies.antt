@@ -3,8 +3,8 @@ use Prim.Native.Nat.{ℕ}
 use mathlib.Core.Bool.{Bool, cond}
 use mathlib.Core.Option.{Option, none, some}
 use mathlib.Core.List.{List, [], _∷_}
-use Rattle.model.specs.Device.{QueueType, Stream}
-use Rattle.model.specs.Answers.{ErrorCode, invalidParameter, Response, failure, Answer}
+use Rattle.model.specs.Device.{Stream}
+use Rattle.model.specs.Answers.{ErrorCode, Response, failure, Answer}
 
 infixr 5 _⇒_then_
 -- a refusal number or 0, the answers, and the record that the stream is left with
@@ -39,16 +39,9 @@ fail c e = reply (own c (failure e) ∷ []) (c .self)
 -- tests in order: the first that hits answers its error
 pub data Tests : Type 0 where
   accept : Reply → Tests
-  reject : ErrorCode → Tests
   _⇒_then_ : Bool → ErrorCode → Tests → Tests
 
 -- what the tests give
 unfoldable pub first : Request → Tests → Reply
 first c (accept v) = v
-first c (reject e) = fail c e
 first c (hit ⇒ e then ts) = cond hit (fail c e) (first c ts)
-
--- a bad queue type is an invalid parameter
-abbrev pub forQueue : Option QueueType → (QueueType → Tests) → Tests
-forQueue none ts = reject invalidParameter
-forQueue (some q) ts = ts q

@@ -9,7 +9,7 @@ use Rattle.laws.specs.Tests.{within}
 use Rattle.laws.specs.Lists.{anyOf}
 use Rattle.field.specs.Field.{field}
 use Rattle.model.specs.Numbers.{tableWords, answerRoom, headerBytes}
-use Rattle.model.specs.Device.{Stream, Device, recordOf, noPlace, put}
+use Rattle.model.specs.Device.{Stream, Device, recordOf, noPlace, putBack}
 use Rattle.model.specs.Frames.{word, streamId}
 use Rattle.model.specs.Answers.{Answer, bytesOf, Written, answersIn}
 use Rattle.model.specs.Replies.{Reply}
@@ -53,16 +53,20 @@ pub record Outcome : Type 0 where
 abbrev pub refused : ℕ → Device → Outcome
 refused k d = record { refusal = k; answers = []; device = d }
 
--- what a creation sees of a device
-abbrev pub around : Device → Surroundings
-around d = record { full = noPlace d }
+-- what a step of n sees of a device besides its own stream
+abbrev pub around : Device → ℕ → Surroundings
+around d n = record { full = noPlace (d .places) }
 
--- the stream's record is looked up, served and put back
-abbrev pub perform : Device → Act → Option ℕ → Outcome
-perform d a none = refused 4 d
-perform d a (some n) =
-    let v : Reply = serve (around d) n (recordOf n d) a in
-    record { refusal = v .refusal; answers = v .answers; device = put n (v .next) d }
+-- the record of the stream n is looked up, served and put back
+abbrev pub performOf : Device → Act → Option ℕ → Outcome
+performOf d a none = refused 4 d
+performOf d a (some n) =
+    let v : Reply = serve (around d n) n (recordOf n (d .places)) a in
+    record { refusal = v .refusal; answers = v .answers; device = putBack n (v .next) d }
+
+-- a step on a device, for the stream number in it
+abbrev pub perform : Device → Act → Outcome
+perform d a = performOf d a (streamOf a)
 
 -- The host's first tests: 1, 3 and 2, in this order, of the table's words, the room's bytes and the table's validity; 0 if none hits
 unfoldable pub hostRefusal : ℕ → ℕ → Bool → ℕ
@@ -72,7 +76,7 @@ hostRefusal words room valid = cond (ltb words tableWords) 1 (cond (ltb room ans
 unfoldable pub step : Device → Step → Outcome
 step d s =
     let k = hostRefusal tableWords (length (s .room)) true in
-    cond (eqb k 0) (perform d (s .act) (streamOf (s .act))) (refused k d)
+    cond (eqb k 0) (perform d (s .act)) (refused k d)
 
 -- Lists
 

@@ -9,7 +9,7 @@ use Rattle.laws.specs.Lists.{same}
 use Rattle.model.specs.Numbers.{tableWords}
 use Rattle.model.specs.Device.{Device, fresh}
 use Rattle.model.specs.Answers.{bytesOf}
-use Rattle.model.specs.Steps.{Act, Step, streamOf, Outcome, perform, hostRefusal, Entry}
+use Rattle.model.specs.Steps.{Act, Step, Outcome, perform, hostRefusal, Entry}
 use Rattle.model.specs.WellFormed.{wellFormed}
 
 -- the words of a device, and the device that words stand for
@@ -60,7 +60,7 @@ module _ (L : Layout) where
   unfoldable pub effect : List ℕ → Act → List ℕ → Effect
   effect t a room =
       let k = hostRefusal (length t) (length room) (valid t) in
-      cond (eqb k 0) (carriedOut (perform (L .decode (take tableWords t)) a (streamOf a)) t room) (untouched k t room)
+      cond (eqb k 0) (carriedOut (perform (L .decode (take tableWords t)) a) t room) (untouched k t room)
 
   -- refusal 1, or 0 and the words of no stream over the used ones
   unfoldable pub freshen : List ℕ → Freshened

@@ -62,14 +62,18 @@ goodPlace vacant = true
 goodPlace (occupied n b) = u32 n && goodStream b
 
 -- no stream number twice
-abbrev pub distinctPlaces : Device → Bool
+abbrev pub distinctPlaces : List Place → Bool
 distinctPlaces [] = true
-distinctPlaces (vacant ∷ d) = distinctPlaces d
-distinctPlaces (occupied n b ∷ d) = isNone (recordOf n d) && distinctPlaces d
+distinctPlaces (vacant ∷ ps) = distinctPlaces ps
+distinctPlaces (occupied n b ∷ ps) = isNone (recordOf n ps) && distinctPlaces ps
 
--- places may be vacant anywhere
+-- eight good places, no number twice; places may be vacant anywhere
+abbrev pub goodPlaces : List Place → Bool
+goodPlaces ps = eqb (length ps) streamPlaces && (allOf goodPlace ps && distinctPlaces ps)
+
+-- a device that a valid table stands for
 unfoldable pub wellFormed : Device → Bool
-wellFormed d = eqb (length d) streamPlaces && (allOf goodPlace d && distinctPlaces d)
+wellFormed d = goodPlaces (d .places)
 
 -- The host's types: a caller cannot lend anything else
 
