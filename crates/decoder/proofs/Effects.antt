@@ -16,7 +16,7 @@ use Rattle.model.specs.Tables.{Effect, valid, carriedOut, effect}
 use Rattle.model.proofs.Tables.{Lent, not-refused}
 use Rattle.model.proofs.Unchanged.{writes-at-most}
 use Rattle.table.specs.Blocks.{decode}
-use Rattle.table.specs.Layout.{layout}
+use Rattle.table.specs.Blocks.{layout}
 use Rattle.table.proofs.Theorems.{valid-well, valid-words}
 use Rattle.steps.specs.Served.{Encodes, replyOf, Served}
 

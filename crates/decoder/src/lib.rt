@@ -3,7 +3,7 @@
 ghost use mathlib.Core.Path.{_≡_};
 ghost use Rattle.model.specs.Steps.{command, finish, drained};
 ghost use Rattle.model.specs.Tables.{freshen, effect};
-ghost use Rattle.table.specs.Layout.{layout};
+ghost use Rattle.table.specs.Blocks.{layout};
 ghost use Rattle.table.specs.Values.{freshened};
 ghost use Rattle.decoder.specs.Entry.{asEffect};
 use pending::Outcome;

@@ -2,6 +2,7 @@ pub mod Tests
 pub mod Lists
 pub mod Ascending
 pub mod Table
+pub mod Positions
 pub mod Parts
 pub mod Pieces
 pub mod Same

@@ -29,7 +29,17 @@ eqb-refl n = eq-eqb n n refl
 pub eqb-sym : (m n : ℕ) → eqb m n ≡ false → eqb n m ≡ false
 eqb-sym m n e = ne-eqb n m (λ p. eqb-false m n e (sym p))
 
--- a test that asks nothing of the element keeps all or none
+-- a list without length is empty
+pub no-element : {A : Type 0} (l : List A) → length l ≡ 0 → l ≡ []
+no-element [] e = refl
+no-element (x ∷ l) e = absurd (omega arith)
+
+-- a test that asks nothing of the element is passed by each
+pub all-true : {A : Type 0} (l : List A) → allOf (λ x. true) l ≡ true
+all-true [] = refl
+all-true (x ∷ l) = all-true l
+
+-- and keeps all or none
 pub keep-const : {A : Type 0} (t : Bool) (l : List A) → keep (λ x. t) l ≡ cond t l []
 keep-const true [] = refl
 keep-const true (x ∷ l) = ap (λ r. x ∷ r) (keep-const true l)

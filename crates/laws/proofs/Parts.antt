@@ -1,9 +1,10 @@
 -- Laws of parts and of blocks of one length. Each is stated over the offset and the length.
-use mathlib.Core.Path.{_≡_}
+use mathlib.Core.Path.{_≡_, ap, ap₂, _∙_}
 use mathlib.Core.List.{List, _++_, append-assoc}
-use Prim.Native.Nat.{ℕ, _+_, _-_, _<_}
-use lib.ListN.{length, getD, length-replicate, getD-replicate, replicate-append-replicate}
-use lib.Seq.{take-at, drop-at, take-append-add, drop-append-add}
+use Prim.Native.Nat.{ℕ, _+_, _-_, _<_, _≤_}
+use native.Mathlib.Omega.{arith}
+use lib.ListN.{length, take, drop, getD, length-drop, length-replicate, getD-replicate, replicate-append-replicate}
+use lib.Seq.{take-at, drop-at, take-append-le, drop-append-le, take-append-add, drop-append-add}
 use Rattle.laws.specs.Parts.{part, put, zeros}
 
 -- Zeros.
@@ -26,6 +27,23 @@ module _ (p m s : List ℕ) (a n : ℕ) (hp : length p ≡ a) (hm : length m ≡
 
   pub put-mid : (ys : List ℕ) → put a n (p ++ (m ++ s)) ys ≡ p ++ (ys ++ s)
   put-mid ys = rw (take-at p (m ++ s) a hp, drop-at p (m ++ s) a hp, drop-at m s n hm)
+
+-- A part of the first of two lists.
+module _ (x y : List ℕ) (a n : ℕ) (h : a + n ≤ length x) where
+  starts : a ≤ length x
+  starts = omega arith
+
+  ends : n ≤ length (drop a x)
+  ends = omega (arith, length-drop a x)
+
+  pub part-front : part a n (x ++ y) ≡ part a n x
+  part-front = ap (take n) (drop-append-le a x y starts) ∙ take-append-le n (drop a x) y ends
+
+  pub put-front : (ys : List ℕ) → put a n (x ++ y) ys ≡ put a n x ys ++ y
+  put-front ys =
+      ap₂ (λ (p q : List ℕ). p ++ (ys ++ q)) (take-append-le a x y starts)
+      (ap (drop n) (drop-append-le a x y starts) ∙ drop-append-le n (drop a x) y ends)
+      ∙ simp append-assoc
 
 -- A part of what follows a head.
 pub put-after : (p l : List ℕ) (a b n : ℕ) (ys : List ℕ) → length p ≡ a → put (a + b) n (p ++ l) ys ≡ p ++ put b n l ys

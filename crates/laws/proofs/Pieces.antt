@@ -1,54 +1,59 @@
--- Laws of elements written one after the other in pieces of one length, and of lists by their places.
+-- Laws of elements written one after the other in pieces of one length, and of tests at every place of a list.
 use Prim.Native.Nat.{ℕ, zero, suc, _+_, _*_, _<_}
 use native.Mathlib.Nat.{mul-zero, mul-suc, le-of-suc-le-suc, not-suc-le-zero}
 use native.Mathlib.Numerals.{add-one}
 use native.Mathlib.Omega.{arith}
 use mathlib.Core.Path.{_≡_, refl, sym, ap, ap₂, _∙_}
-use mathlib.Core.Bool.{Bool, true, false, cond, _&&_}
-use mathlib.Core.Option.{Option, none, some}
+use mathlib.Core.Bool.{Bool, true, false, _&&_}
 use mathlib.Core.List.{List, [], _∷_, _++_, append-assoc, append-nil}
 use lib.ListN.{length, getD, set, take, drop, length-append, length-drop}
 use lib.Seq.{take-at, drop-at, drop-drop, take-suc}
-use Rattle.laws.specs.Lists.{allOf, same, position, later}
-use Rattle.laws.specs.Tests.{allBelow, first, orElse}
+use Rattle.laws.specs.Lists.{allOf, same}
+use Rattle.laws.specs.Tests.{allBelow}
 use Rattle.laws.specs.Parts.{part, put, pieces, readPieces}
 use Rattle.laws.proofs.Tests.{and-left, and-right, all-ext}
+use Rattle.laws.proofs.Lists.{no-element}
 use Rattle.laws.proofs.Parts.{part-after, put-after}
 use Rattle.laws.proofs.Same.{same-eq, same-cut}
 
-module _ {A : Type 0} (f : A → List ℕ) (k : ℕ) (len : (x : A) → length (f x) ≡ k) where
-  pub pieces-length : (l : List A) → length (pieces f l) ≡ k * length l
+-- of elements that pass the test p a piece has k words
+module _ {A : Type 0} (f : A → List ℕ) (k : ℕ) (p : A → Bool) (len : (x : A) → p x ≡ true → length (f x) ≡ k) where
+  pub pieces-length : (l : List A) → allOf p l ≡ true → length (pieces f l) ≡ k * length l
   unfolding pieces
-  pieces-length [] = sym (mul-zero k)
-  pieces-length (x ∷ l) = omega (arith, length-append (f x) (pieces f l), len x, pieces-length l, mul-suc k (length l))
+  pieces-length [] a = sym (mul-zero k)
+  pieces-length (x ∷ l) a = omega (arith, length-append (f x) (pieces f l), len x (and-left (p x) _ a), pieces-length l (and-right (p x) _ a), mul-suc k (length l))
 
   -- the piece of the element at a place, and the pieces with another element there
-  pub pieces-part : (l : List A) (i : ℕ) (d : A) → i < length l → part (k * i) k (pieces f l) ≡ f (getD l i d)
+  pub pieces-part : (l : List A) → allOf p l ≡ true → (i : ℕ) (d : A) → i < length l → part (k * i) k (pieces f l) ≡ f (getD l i d)
   unfolding pieces
-  pieces-part [] i d h = absurd (not-suc-le-zero h)
-  pieces-part (x ∷ l) zero d h = ap (λ (n : ℕ). part n k (f x ++ pieces f l)) (mul-zero k) ∙ take-at (f x) (pieces f l) k (len x)
-  pieces-part (x ∷ l) (suc i) d h =
+  pieces-part [] a i d h = absurd (not-suc-le-zero h)
+  pieces-part (x ∷ l) a zero d h = ap (λ (n : ℕ). part n k (f x ++ pieces f l)) (mul-zero k) ∙ take-at (f x) (pieces f l) k (len x (and-left (p x) _ a))
+  pieces-part (x ∷ l) a (suc i) d h =
       let next : k * suc i ≡ k + k * i = omega (arith, mul-suc k i) in
-      ap (λ (n : ℕ). part n k (f x ++ pieces f l)) next ∙ part-after (f x) (pieces f l) k (k * i) k (len x) ∙ pieces-part l i d (le-of-suc-le-suc h)
+      ap (λ (n : ℕ). part n k (f x ++ pieces f l)) next
+      ∙ part-after (f x) (pieces f l) k (k * i) k (len x (and-left (p x) _ a))
+      ∙ pieces-part l (and-right (p x) _ a) i d (le-of-suc-le-suc h)
 
-  pub pieces-put : (l : List A) (i : ℕ) (y : A) → i < length l → put (k * i) k (pieces f l) (f y) ≡ pieces f (set l i y)
+  pub pieces-put : (l : List A) → allOf p l ≡ true → (i : ℕ) (y : A) → i < length l → put (k * i) k (pieces f l) (f y) ≡ pieces f (set l i y)
   unfolding pieces
-  pieces-put [] i y h = absurd (not-suc-le-zero h)
-  pieces-put (x ∷ l) zero y h = ap (λ (n : ℕ). put n k (f x ++ pieces f l) (f y)) (mul-zero k) ∙ ap (λ (w : List ℕ). f y ++ w) (drop-at (f x) (pieces f l) k (len x))
-  pieces-put (x ∷ l) (suc i) y h =
+  pieces-put [] a i y h = absurd (not-suc-le-zero h)
+  pieces-put (x ∷ l) a zero y h =
+      ap (λ (n : ℕ). put n k (f x ++ pieces f l) (f y)) (mul-zero k) ∙ ap (λ (w : List ℕ). f y ++ w) (drop-at (f x) (pieces f l) k (len x (and-left (p x) _ a)))
+  pieces-put (x ∷ l) a (suc i) y h =
       let next : k * suc i ≡ k + k * i = omega (arith, mul-suc k i) in
       ap (λ (n : ℕ). put n k (f x ++ pieces f l) (f y)) next
-      ∙ put-after (f x) (pieces f l) k (k * i) k (f y) (len x)
-      ∙ ap (λ (w : List ℕ). f x ++ w) (pieces-put l i y (le-of-suc-le-suc h))
+      ∙ put-after (f x) (pieces f l) k (k * i) k (f y) (len x (and-left (p x) _ a))
+      ∙ ap (λ (w : List ℕ). f x ++ w) (pieces-put l (and-right (p x) _ a) i y (le-of-suc-le-suc h))
 
   -- elements that are read back from their pieces one by one are read back together
-  pub pieces-read : (g : List ℕ → A) (p : A → Bool) → ((x : A) → p x ≡ true → g (f x) ≡ x) → (l : List A) → allOf p l ≡ true → readPieces g k (length l) (pieces f l) ≡ l
+  pub pieces-read : (g : List ℕ → A) → ((x : A) → p x ≡ true → g (f x) ≡ x) → (l : List A) → allOf p l ≡ true → readPieces g k (length l) (pieces f l) ≡ l
   unfolding pieces readPieces
-  pieces-read g p h [] e = refl
-  pieces-read g p h (x ∷ l) e =
+  pieces-read g h [] a = refl
+  pieces-read g h (x ∷ l) a =
+      let this = len x (and-left (p x) _ a) in
       ap₂ (λ (y : A) (m : List A). y ∷ m)
-      (ap g (take-at (f x) (pieces f l) k (len x)) ∙ h x (and-left (p x) (allOf p l) e))
-      (ap (readPieces g k (length l)) (drop-at (f x) (pieces f l) k (len x)) ∙ pieces-read g p h l (and-right (p x) (allOf p l) e))
+      (ap g (take-at (f x) (pieces f l) k this) ∙ h x (and-left (p x) _ a))
+      (ap (readPieces g k (length l)) (drop-at (f x) (pieces f l) k this) ∙ pieces-read g h l (and-right (p x) _ a))
 
 -- What is read out of pieces
 
@@ -90,31 +95,11 @@ module _ {A : Type 0} (p : A → Bool) (d : A) where
   all-places [] = refl
   all-places (x ∷ l) = ap (λ (b : Bool). p x && b) (all-places l) ∙ sym (below-front (λ i. p (getD (x ∷ l) i d)) (length l))
 
-  first-front : (q : ℕ → Bool) (n : ℕ) → first (suc n) q ≡ cond (q 0) (some 0) (later (first n (λ i. q (suc i))))
-  unfolding first
-  first-front q zero = refl
-  first-front q (suc n) = ap (λ (o : Option ℕ). orElse o (cond (q (suc n)) (some (suc n)) none)) (first-front q n) ∙ of (q 0) (first n (λ i. q (suc i))) (q (suc n))
-    where
-      of : (a : Bool) (o : Option ℕ) (c : Bool) → orElse (cond a (some 0) (later o)) (cond c (some (suc n)) none) ≡ cond a (some 0) (later (orElse o (cond c (some n) none)))
-      of true o c = refl
-      of false (some j) c = refl
-      of false none true = refl
-      of false none false = refl
-
-  pub position-first : (l : List A) → position p l ≡ first (length l) (λ i. p (getD l i d))
-  unfolding first
-  position-first [] = refl
-  position-first (x ∷ l) = ap (λ (o : Option ℕ). cond (p x) (some 0) (later o)) (position-first l) ∙ sym (first-front (λ i. p (getD (x ∷ l) i d)) (length l))
-
 -- words are those of the elements that they are read as exactly where each piece is
 module _ {A : Type 0} (f : A → List ℕ) (k : ℕ) (len : (x : A) → length (f x) ≡ k) (g : List ℕ → A) where
   pub same-pieces : (n : ℕ) (w : List ℕ) → length w ≡ k * n → same w (pieces f (readPieces g k n w)) ≡ allBelow n (λ i. same (part (k * i) k w) (f (g (part (k * i) k w))))
   unfolding pieces readPieces allBelow
-  same-pieces zero w h = same-eq w [] (nothing w (h ∙ mul-zero k))
-    where
-      nothing : (l : List ℕ) → length l ≡ 0 → l ≡ []
-      nothing [] e = refl
-      nothing (x ∷ l) e = absurd (omega arith)
+  same-pieces zero w h = same-eq w [] (no-element w (h ∙ mul-zero k))
   same-pieces (suc n) w h =
       let whole : length w ≡ k + k * n = omega (arith, h, mul-suc k n) in
       same-cut w (f (g (take k w))) (pieces f (readPieces g k n (drop k w))) k (omega arith) (len (g (take k w)))

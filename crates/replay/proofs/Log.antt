@@ -1,5 +1,5 @@
 -- What is promised of a whole log, over the table's own layout.
-use Rattle.table.specs.Layout.{layout}
+use Rattle.table.specs.Blocks.{layout}
 use Rattle.table.proofs.Theorems.{meets-laws}
 use Rattle.line.proofs.Cutting.{any-calls, any-cutting}
 use Rattle.line.proofs.Shown.{room-free, writes-answers, shows-entries}

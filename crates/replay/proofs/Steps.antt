@@ -18,7 +18,7 @@ use Rattle.model.specs.Tables.{Layout, Effect, effect}
 use Rattle.model.specs.Promises.{listed}
 use Rattle.model.proofs.Refusals.{only-listed}
 use Rattle.model.proofs.Unchanged.{writes-at-most}
-use Rattle.table.specs.Layout.{layout}
+use Rattle.table.specs.Blocks.{layout}
 use Rattle.line.specs.Line.{Line, step, refused, lineOf}
 use Rattle.line.specs.Split.{Split, split}
 use Rattle.line.specs.Reading.{Reader, Call, onSplit, onPiece, lastStep}

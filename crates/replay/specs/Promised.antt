@@ -1,5 +1,5 @@
 -- What is promised of a whole log over the tables of this device. It is proved in proofs/Log.
-use Rattle.table.specs.Layout.{layout}
+use Rattle.table.specs.Blocks.{layout}
 use Rattle.line.specs.Promises.{RoomFree, WritesAnswers, AnyCalls, AnyCutting, ShowsEntries}
 use Rattle.line.specs.Examples.{Examples}
 

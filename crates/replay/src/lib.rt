@@ -3,7 +3,7 @@ ghost use mathlib.Core.Path.{_≡_};
 ghost use mathlib.Core.List.{List};
 ghost use Prim.Native.Nat.{ℕ, _<_, _≤_};
 ghost use lib.ListN.{length, take};
-ghost use Rattle.table.specs.Layout.{layout};
+ghost use Rattle.table.specs.Blocks.{layout};
 ghost use Rattle.line.specs.Split.{lineRoom};
 ghost use Rattle.line.specs.Log.{lineStep};
 ghost use Rattle.line.specs.Reading.{onPiece, lastStep};

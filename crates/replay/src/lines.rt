@@ -3,7 +3,7 @@ ghost use mathlib.Core.Path.{_≡_};
 ghost use Prim.Native.Nat.{_≤_};
 ghost use lib.ListN.{length, take};
 ghost use Rattle.model.specs.Tables.{effect};
-ghost use Rattle.table.specs.Layout.{layout};
+ghost use Rattle.table.specs.Blocks.{layout};
 ghost use Rattle.decoder.specs.Entry.{asEffect};
 ghost use Rattle.line.specs.Line.{framed, countIn};
 ghost use Rattle.line.specs.Split.{lineRoom};

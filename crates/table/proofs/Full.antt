@@ -5,7 +5,7 @@ use Rattle.laws.specs.Tests.{within}
 use Rattle.model.specs.WellFormed.{u32, u64, wellFormed}
 use Rattle.model.proofs.Tables.{words-valid}
 use Rattle.table.specs.Full.{fullDevice, FullIsValid}
-use Rattle.table.specs.Layout.{layout}
+use Rattle.table.specs.Blocks.{layout}
 use Rattle.table.proofs.Theorems.{meets-laws}
 
 full-well : wellFormed fullDevice ≡ true

@@ -3,4 +3,3 @@ pub mod Theorems
 pub mod Full
 pub mod Bridge
 pub mod Heads
-pub mod Looked

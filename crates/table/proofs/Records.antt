@@ -1,25 +1,26 @@
--- Laws of the words of a place and of a device: their lengths, the parts of a place, one place among eight, and that decoding undoes encoding.
+-- Laws of the words of a place and of a device: their lengths, the parts of a place, one place among the blocks, and that decoding undoes encoding.
 use mathlib.Core.Path.{_≡_, refl, sym, ap, ap₂, _∙_}
 use mathlib.Core.Bool.{true, false}
 use mathlib.Core.Option.{Option, none, some}
-use mathlib.Core.List.{List, [], _∷_, _++_, append-assoc}
-use Prim.Native.Nat.{ℕ, suc, _+_, _*_, _-_, _<_}
-use native.Mathlib.Nat.{mul-zero, mul-suc, add-sub-cancel-left}
+use mathlib.Core.List.{List, _++_, append-assoc}
+use Prim.Native.Nat.{ℕ, _+_, _*_, _-_, _<_, _≤_}
+use native.Mathlib.Nat.{add-sub-cancel-left}
 use native.Mathlib.Omega.{arith}
-use lib.ListN.{length, getD, set, take, drop, length-append}
-use lib.Seq.{split-at, set-split, length-take-le, ext-getD}
+use lib.ListN.{length, getD, set, take, length-append}
+use lib.Seq.{take-at}
 use lib.Dec.{eqb}
 use borrow.Author.Tests.{eq-eqb, eqb-true}
 use Rattle.laws.specs.Lists.{allOf}
-use Rattle.laws.specs.Parts.{part, put, zeros, pieces, readPieces}
+use Rattle.laws.specs.Parts.{part, put, zeros}
 use Rattle.laws.proofs.Tests.{both, and-left, and-right}
-use Rattle.laws.proofs.Lists.{all-take, all-getD}
-use Rattle.laws.proofs.Parts.{zero-length, zero-at, part-mid, put-mid, lent}
-use Rattle.laws.proofs.Pieces.{pieces-append, read-length, read-at}
-use Rattle.model.specs.Device.{QueueType, input, output, Queue, Stream, Place, vacant, occupied, Device, queueOf, withQueue}
+use Rattle.laws.proofs.Lists.{all-getD}
+use Rattle.laws.proofs.Parts.{zero-length, zero-at, part-mid, put-mid, part-front, put-front, lent}
+use Rattle.laws.proofs.Pieces.{pieces-length, pieces-part, pieces-put, pieces-read}
+use Rattle.model.specs.Numbers.{tableWords}
+use Rattle.model.specs.Device.{QueueType, input, output, Queue, Stream, Place, vacant, occupied, Device, queueOf, withQueue, withPlaces}
 use Rattle.words.specs.Words.{queueWords, decodeQueue}
 use Rattle.words.proofs.Records.{queue-length, decode-queue}
-use Rattle.table.specs.Blocks.{queueStart, drainWords, headWords, placeWords, encode, drainIn, decodePlace, decode}
+use Rattle.table.specs.Blocks.{queueStart, drainWords, headWords, placeWords, blocks, blocksSize, behind, encode, drainIn, decodePlace, placesIn, decode}
 use Rattle.table.specs.Search.{placeAt, sized}
 
 -- Lengths
@@ -43,9 +44,9 @@ place-length vacant h = zero-length 512
 place-length (occupied n b) h =
     simp (length-append, head-length, queue-length (b .inputs) (sized-queue input n b h), queue-length (b .outputs) (sized-queue output n b h), zero-length)
 
--- a place of sized ones is sized, and they stay so with another sized one
-pub place-sized : (d : Device) (k : ℕ) → allOf sized d ≡ true → sized (placeAt k d) ≡ true
-place-sized d k s = all-getD sized d k vacant refl s
+-- a place of sized ones is sized
+pub place-sized : (ps : List Place) (k : ℕ) → allOf sized ps ≡ true → sized (placeAt k ps) ≡ true
+place-sized ps k s = all-getD sized ps k vacant refl s
 
 -- A queue in its place
 
@@ -92,78 +93,68 @@ module _ (n : ℕ) (b : Stream) (h : sized (occupied n b) ≡ true) where
         lent a (a + 84) 84 l (queueWords (queueOf q b)) (queueWords x) (placeWords (occupied n (withQueue q x b))) ys (add-sub-cancel-left a 84) here
         (ap₂ (λ (i : ℕ) (w : List ℕ). put i 84 w (queueWords x)) at e ∙ queue-put q x)
 
--- A place in its device
+-- A place among the blocks
 
-pieces-cons : {A : Type 0} (f : A → List ℕ) (x : A) (l : List A) → pieces f (x ∷ l) ≡ f x ++ pieces f l
-unfolding pieces
-pieces-cons f x l = refl
+pub blocks-length : (ps : List Place) → allOf sized ps ≡ true → length (blocks ps) ≡ 512 * length ps
+unfolding blocks
+blocks-length ps s = pieces-length placeWords 512 sized place-length ps s
 
-pub words-length : (d : Device) → allOf sized d ≡ true → length (encode d) ≡ 512 * length d
-unfolding encode pieces
-words-length [] h = sym (mul-zero 512)
-words-length (p ∷ d) h =
-    omega (
-      arith,
-      length-append (placeWords p) (pieces placeWords d),
-      place-length p (and-left (sized p) _ h),
-      words-length d (and-right (sized p) _ h),
-      mul-suc 512 (length d),
-    )
+-- 4,096 words that are the blocks of sized places are those of eight
+pub held-places : (l : List ℕ) (ps : List Place) → allOf sized ps ≡ true → length l ≡ blocksSize → l ≡ blocks ps → length ps ≡ 8
+held-places l ps s long e = omega (arith, blocks-length ps s, ap length e)
 
--- 4,096 words that are those of sized places are those of eight
-pub held-places : (l : List ℕ) (d : Device) → allOf sized d ≡ true → length l ≡ 4096 → l ≡ encode d → length d ≡ 8
-held-places l d s long e = omega (arith, words-length d s, ap length e)
+module _ (ps : List Place) (k : ℕ) (s : allOf sized ps ≡ true) (h : k < length ps) where
+  pub place-part : part (512 * k) 512 (blocks ps) ≡ placeWords (placeAt k ps)
+  unfolding blocks
+  place-part = pieces-part placeWords 512 sized place-length ps s k vacant h
 
-module _ (d : Device) (s : allOf sized d ≡ true) (k : ℕ) (h : k < length d) where
-  before : List ℕ
-  before = encode (take k d)
+  pub place-put : (p : Place) → put (512 * k) 512 (blocks ps) (placeWords p) ≡ blocks (set ps k p)
+  unfolding blocks
+  place-put p = pieces-put placeWords 512 sized place-length ps s k p h
 
-  after : List ℕ
-  after = encode (drop (suc k) d)
+-- its words are read
+pub place-read : (l : List ℕ) (ps : List Place) (k : ℕ) → length l ≡ blocksSize → k < 8 → allOf sized ps ≡ true → l ≡ blocks ps
+    → part (512 * k) (512 * k + 512 - 512 * k) l ≡ placeWords (placeAt k ps)
+place-read l ps k long h s e = rw (e, add-sub-cancel-left (512 * k) 512) (place-part ps k s (omega (arith, held-places l ps s long e)))
 
-  start : length before ≡ 512 * k
-  unfolding before
-  start = words-length (take k d) (all-take sized k d s) ∙ ap (λ (i : ℕ). 512 * i) (length-take-le k d (omega arith))
+-- The blocks in the used words
 
-  this : sized (placeAt k d) ≡ true
-  this = place-sized d k s
+pub behind-length : (d : Device) → length (behind d) ≡ 0
+unfolding behind
+behind-length d = refl
 
-  at : encode d ≡ before ++ (placeWords (placeAt k d) ++ after)
-  unfolding encode before after
-  at =
-      ap (pieces placeWords) (split-at d k vacant h)
-      ∙ pieces-append placeWords (take k d) (placeAt k d ∷ drop (suc k) d)
-      ∙ ap (λ (w : List ℕ). pieces placeWords (take k d) ++ w) (pieces-cons placeWords (placeAt k d) (drop (suc k) d))
+module _ (d : Device) (s : allOf sized (d .places) ≡ true) (eight : length (d .places) ≡ 8) where
+  all-blocks : length (blocks (d .places)) ≡ blocksSize
+  all-blocks = omega (arith, blocks-length (d .places) s)
 
-  with : (p : Place) → encode (set d k p) ≡ before ++ (placeWords p ++ after)
-  unfolding encode before after
-  with p =
-      ap (pieces placeWords) (set-split d k p h)
-      ∙ pieces-append placeWords (take k d) (p ∷ drop (suc k) d)
-      ∙ ap (λ (w : List ℕ). pieces placeWords (take k d) ++ w) (pieces-cons placeWords p (drop (suc k) d))
+  pub used-length : length (encode d) ≡ tableWords
+  unfolding encode
+  used-length = omega (arith, length-append (blocks (d .places)) (behind d), all-blocks, behind-length d)
 
-  pub place-part : part (512 * k) 512 (encode d) ≡ placeWords (placeAt k d)
-  place-part = ap (part (512 * k) 512) at ∙ part-mid before (placeWords (placeAt k d)) after (512 * k) 512 start (place-length (placeAt k d) this)
+  pub blocks-front : take blocksSize (encode d) ≡ blocks (d .places)
+  unfolding encode
+  blocks-front = take-at (blocks (d .places)) (behind d) blocksSize all-blocks
 
-  pub place-put : (p : Place) → put (512 * k) 512 (encode d) (placeWords p) ≡ encode (set d k p)
-  place-put p =
-      ap (λ (l : List ℕ). put (512 * k) 512 l (placeWords p)) at
-      ∙ put-mid before (placeWords (placeAt k d)) after (512 * k) 512 start (place-length (placeAt k d) this) (placeWords p)
-      ∙ sym (with p)
+  -- a block is lent, and comes back as that of p
+  module _ (l : List ℕ) (k : ℕ) (h : k < 8) (e : l ≡ encode d) where
+    ends : 512 * k + 512 ≤ length (blocks (d .places))
+    ends = omega (arith, all-blocks)
 
--- its words are read, or lent and come back as those of p
-module _ (l : List ℕ) (d : Device) (k : ℕ) (long : length l ≡ 4096) (h : k < 8) (s : allOf sized d ≡ true) (e : l ≡ encode d) where
-  inside : k < length d
-  inside = omega (arith, held-places l d s long e)
+    pub block-part : part (512 * k) 512 l ≡ placeWords (placeAt k (d .places))
+    unfolding encode
+    block-part = rw e (part-front (blocks (d .places)) (behind d) (512 * k) 512 ends ∙ place-part (d .places) k s (omega arith))
 
-  pub place-read : part (512 * k) (512 * k + 512 - 512 * k) l ≡ placeWords (placeAt k d)
-  place-read = rw (e, add-sub-cancel-left (512 * k) 512) (place-part d s k inside)
+    block-put : (p : Place) → put (512 * k) 512 l (placeWords p) ≡ encode (withPlaces (set (d .places) k p) d)
+    unfolding encode behind
+    block-put p =
+        rw e (put-front (blocks (d .places)) (behind d) (512 * k) 512 ends (placeWords p)
+        ∙ ap (λ (w : List ℕ). w ++ behind d) (place-put (d .places) k s (omega arith) p))
 
-  pub place-lent : (ys : List ℕ) (p : Place) → (part (512 * k) (512 * k + 512 - 512 * k) l ≡ placeWords (placeAt k d) → ys ≡ placeWords p)
-      → put (512 * k) (512 * k + 512 - 512 * k) l ys ≡ encode (set d k p)
-  place-lent ys p =
-      lent (512 * k) (512 * k + 512) 512 l (placeWords (placeAt k d)) (placeWords p) (encode (set d k p)) ys (add-sub-cancel-left (512 * k) 512)
-      (rw e (place-part d s k inside)) (rw e (place-put d s k inside p))
+    pub block-lent : (ys : List ℕ) (p : Place) → (part (512 * k) (512 * k + 512 - 512 * k) l ≡ placeWords (placeAt k (d .places)) → ys ≡ placeWords p)
+        → put (512 * k) (512 * k + 512 - 512 * k) l ys ≡ encode (withPlaces (set (d .places) k p) d)
+    block-lent ys p =
+        lent (512 * k) (512 * k + 512) 512 l (placeWords (placeAt k (d .places))) (placeWords p) (encode (withPlaces (set (d .places) k p) d)) ys
+        (add-sub-cancel-left (512 * k) 512) block-part (block-put p)
 
 -- Decoding undoes encoding
 
@@ -185,12 +176,10 @@ decode-place (occupied n b) h = λ i. occupied n (record {
   outputs = (ap decodeQueue (queue-part n b h output) ∙ decode-queue (b .outputs) (sized-queue output n b h)) i;
 })
 
-pub decode-device : (d : Device) → allOf sized d ≡ true → length d ≡ 8 → decode (encode d) ≡ d
+pub decode-places : (ps : List Place) → allOf sized ps ≡ true → length ps ≡ 8 → placesIn (blocks ps) ≡ ps
+unfolding placesIn blocks
+decode-places ps s eight = rw eight at (pieces-read placeWords 512 sized place-length decodePlace decode-place ps s)
+
+pub decode-device : (d : Device) → allOf sized (d .places) ≡ true → length (d .places) ≡ 8 → decode (encode d) ≡ d
 unfolding decode
-decode-device d s eight =
-    ext-getD vacant (readPieces decodePlace 512 8 (encode d)) d (read-length decodePlace 512 8 (encode d) ∙ sym eight)
-    (λ k h.
-    let k8 : k < 8 = omega (arith, read-length decodePlace 512 8 (encode d)) in
-    read-at decodePlace 512 8 (encode d) k vacant k8
-    ∙ ap decodePlace (place-part d s k (omega arith))
-    ∙ decode-place (placeAt k d) (place-sized d k s))
+decode-device d s eight = λ i. record { places = (ap placesIn (blocks-front d s eight) ∙ decode-places (d .places) s eight) i }

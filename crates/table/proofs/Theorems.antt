@@ -1,4 +1,4 @@
--- The statements of specs/Layout, proved: the layout is lawful, valid is exactly the tables of well-formed devices, and condition 3 and the
+-- The statements of specs/Promises, proved: the layout is lawful, valid is exactly the tables of well-formed devices, and condition 3 and the
 -- model's other promises hold over its tables.
 use mathlib.Core.Path.{_≡_, refl, sym, ap, ap₂, _∙_}
 use mathlib.Core.Bool.{Bool, true, false, not, _&&_}
@@ -23,15 +23,15 @@ use Rattle.model.specs.Device.{created, queued, dequeued, Slot, free, resource,
 use Rattle.model.specs.Commands.{badExtent}
 use Rattle.model.specs.WellFormed.{u32, u64, goodSlot, goodSlots, goodQueue, goodDrain, goodPlace, wellFormed}
 use Rattle.model.specs.Tables.{valid}
-use Rattle.model.proofs.WellFormed.{well-fresh}
+use Rattle.model.proofs.WellFormed.{well-fresh, well-places}
 use Rattle.model.proofs.Tables.{on-tables, fresh-short, fresh-long, no-mark-in-tables}
 use Rattle.model.proofs.Refusals.{only-listed, no-table-refusal}
 use Rattle.model.proofs.Unchanged.{refusal-changes-nothing, error-changes-nothing, keeps-rest, stays-valid, writes-at-most}
 use Rattle.words.specs.Words.{slotWords, flagWord, queueWords}
-use Rattle.table.specs.Blocks.{drainWords, headWords, placeWords, encode, decode}
+use Rattle.table.specs.Blocks.{drainWords, headWords, placeWords, blocks, behind, encode, decode, layout}
 use Rattle.table.specs.Search.{sized}
-use Rattle.table.specs.Layout.{layout, MeetsLaws, ValidExactly, Narrow, FreshIsZero, ConditionThree, Promised}
-use Rattle.table.proofs.Records.{words-length, decode-device}
+use Rattle.table.specs.Promises.{MeetsLaws, ValidExactly, Narrow, FreshIsZero, ConditionThree, Promised}
+use Rattle.table.proofs.Records.{used-length, decode-device}
 
 -- The two laws
 
@@ -59,22 +59,14 @@ good-sized (occupied n b) h =
     (and-left (eqb (length (b .outputs .slots)) 16) _ (and-left (goodSlots (b .outputs .slots)) _ (good-outputs n b h)))
 
 module _ (d : Device) (h : wellFormed d ≡ true) where
-  pub well-eight : length d ≡ 8
-  unfolding wellFormed
-  well-eight = eqb-true (length d) 8 (and-left (eqb (length d) 8) _ h)
+  pub well-sized : allOf sized (d .places) ≡ true
+  well-sized = all-implied goodPlace sized good-sized (d .places) ((well-places d h) .each)
 
-  pub well-places : allOf goodPlace d ≡ true
-  unfolding wellFormed
-  well-places = and-left (allOf goodPlace d) _ (and-right (eqb (length d) 8) _ h)
-
-  pub well-sized : allOf sized d ≡ true
-  well-sized = all-implied goodPlace sized good-sized d well-places
+  pub well-eight : length (d .places) ≡ 8
+  well-eight = (well-places d h) .size
 
 pub meets-laws : MeetsLaws
-meets-laws = record {
-  size = λ d h. words-length d (well-sized d h) ∙ ap (λ (n : ℕ). 512 * n) (well-eight d h);
-  back = λ d h. decode-device d (well-sized d h) (well-eight d h);
-}
+meets-laws = record { size = λ d h. used-length d (well-sized d h) (well-eight d h); back = λ d h. decode-device d (well-sized d h) (well-eight d h) }
 
 -- No rule is missing and none is added
 
@@ -179,8 +171,10 @@ narrow-place (occupied n b) h =
     ∙ both (narrow-queue (b .inputs) (good-inputs n b h)) (all-append u32 outs (zeros 336) ∙ both (narrow-queue (b .outputs) (good-outputs n b h)) (narrow-zeros 336)))
 
 pub narrow : Narrow
-unfolding encode
-narrow d h = narrow-pieces placeWords goodPlace narrow-place d (well-places d h)
+unfolding encode blocks behind
+narrow d h =
+    all-append u32 (blocks (d .places)) (behind d)
+    ∙ both (narrow-pieces placeWords goodPlace narrow-place (d .places) ((well-places d h) .each)) refl
 
 -- No streams
 
@@ -188,17 +182,21 @@ no-zeros : zeros 0 ≡ []
 unfolding zeros
 no-zeros = refl
 
-vacant-zero : (n : ℕ) → encode (replicate n vacant) ≡ zeros (512 * n)
-unfolding encode pieces placeWords
+vacant-zero : (n : ℕ) → blocks (replicate n vacant) ≡ zeros (512 * n)
+unfolding blocks pieces placeWords
 vacant-zero zero = sym (ap zeros (mul-zero 512) ∙ no-zeros)
 vacant-zero (suc n) =
     ap (λ (w : List ℕ). zeros 512 ++ w) (vacant-zero n)
     ∙ zeros-append 512 (512 * n)
     ∙ ap zeros (let next : 512 + 512 * n ≡ 512 * suc n = omega (arith, mul-suc 512 n) in next)
 
+behind-zero : behind fresh ≡ zeros 0
+unfolding behind zeros
+behind-zero = refl
+
 pub fresh-is-zero : FreshIsZero
-unfolding fresh
-fresh-is-zero = vacant-zero 8
+unfolding encode fresh
+fresh-is-zero = ap₂ _++_ (vacant-zero 8) behind-zero ∙ zeros-append 4096 0
 
 pub zero-is-fresh : decode (zeros tableWords) ≡ fresh
 zero-is-fresh = ap decode (sym fresh-is-zero) ∙ meets-laws .back fresh well-fresh

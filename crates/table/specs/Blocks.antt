@@ -1,13 +1,14 @@
--- The words of a stream place and of the whole device table, and the records that words stand for.
+-- The words of a stream place and of the whole device table, the records that words stand for, and with both the table's layout.
 use Prim.Native.Nat.{ℕ}
 use mathlib.Core.Bool.{cond}
 use mathlib.Core.Option.{Option, none, some}
 use mathlib.Core.List.{List, [], _∷_, _++_}
-use lib.ListN.{getD}
+use lib.ListN.{take, getD}
 use lib.Dec.{eqb}
 use Rattle.laws.specs.Parts.{part, zeros, pieces, readPieces}
 use Rattle.model.specs.Numbers.{streamPlaces}
 use Rattle.model.specs.Device.{QueueType, input, output, Place, vacant, occupied, Device}
+use Rattle.model.specs.Tables.{Layout}
 use Rattle.words.specs.Words.{queueSize, queueWords, decodeQueue}
 
 -- a place is a block of 512 words: live (0 or 1), number, coded format, drain owed (0 or 1), drain ticket, three words without use, the
@@ -38,9 +39,21 @@ unfoldable pub placeWords : Place → List ℕ
 placeWords vacant = zeros placeSize
 placeWords (occupied n b) = headWords n (b .format) (b .draining) ++ (queueWords (b .inputs) ++ (queueWords (b .outputs) ++ zeros spareSize))
 
--- eight blocks
+-- the blocks of places, one after the other
+unfoldable pub blocks : List Place → List ℕ
+blocks ps = pieces placeWords ps
+
+-- the words of eight blocks
+abbrev pub blocksSize : ℕ
+blocksSize = 4096
+
+-- the words behind the blocks: there are none
+unfoldable pub behind : Device → List ℕ
+behind d = []
+
+-- the used words of a table: the blocks of the places, and the words behind them
 unfoldable pub encode : Device → List ℕ
-encode d = pieces placeWords d
+encode d = blocks (d .places) ++ behind d
 
 -- The records that words stand for
 
@@ -61,6 +74,14 @@ decodePlace w =
     }))
     vacant
 
--- the device that the words of eight blocks stand for
+-- the places that the words of eight blocks stand for
+unfoldable pub placesIn : List ℕ → List Place
+placesIn w = readPieces decodePlace placeSize streamPlaces w
+
+-- the device that the used words of a table stand for
 unfoldable pub decode : List ℕ → Device
-decode w = readPieces decodePlace placeSize streamPlaces w
+decode w = record { places = placesIn (take blocksSize w) }
+
+-- the one layout of this device
+abbrev pub layout : Layout
+layout = record { encode = encode; decode = decode }

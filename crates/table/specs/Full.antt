@@ -9,8 +9,7 @@ use Rattle.model.specs.Numbers.{streamPlaces, queueSlots}
 use Rattle.model.specs.Device.{queued, Slot, resource, Queue, Place, vacant, occupied, Device, noSlot, noPlace}
 use Rattle.model.specs.WellFormed.{wellFormed}
 use Rattle.model.specs.Tables.{valid}
-use Rattle.table.specs.Blocks.{encode}
-use Rattle.table.specs.Layout.{layout}
+use Rattle.table.specs.Blocks.{encode, layout}
 
 -- resources n - 1, .., 0, all Queued
 abbrev pub fullSlots : ℕ → List Slot
@@ -21,12 +20,12 @@ abbrev pub fullQueue : Queue
 fullQueue = record { width = 4096; height = 16; rate = 0xFFFFFFFF; clearing = true; slots = fullSlots queueSlots }
 
 -- streams n - 1, .., 0, each with a drain owed
-abbrev pub fullPlaces : ℕ → Device
+abbrev pub fullPlaces : ℕ → List Place
 fullPlaces zero = []
 fullPlaces (suc n) = occupied n (record { format = 0x1005; draining = some 0xFFFFFFFF; inputs = fullQueue; outputs = fullQueue }) ∷ fullPlaces n
 
 abbrev pub fullDevice : Device
-fullDevice = fullPlaces streamPlaces
+fullDevice = record { places = fullPlaces streamPlaces }
 
 -- no slot of the place is free
 abbrev pub noSlotIn : Place → Bool
@@ -34,8 +33,8 @@ noSlotIn vacant = false
 noSlotIn (occupied n b) = noSlot (b .inputs .slots) && noSlot (b .outputs .slots)
 
 pub record FullIsValid : Type 0 where
-  pub places : noPlace fullDevice ≡ true
-  pub slots : allOf noSlotIn fullDevice ≡ true
+  pub places : noPlace (fullDevice .places) ≡ true
+  pub slots : allOf noSlotIn (fullDevice .places) ≡ true
   pub well : wellFormed fullDevice ≡ true
   -- whatever words stand behind its own
   pub table : (behind : List ℕ) → valid layout (encode fullDevice ++ behind) ≡ true

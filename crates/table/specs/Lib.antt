@@ -1,5 +1,5 @@
 pub mod Blocks
-pub mod Layout
 pub mod Search
 pub mod Values
+pub mod Promises
 pub mod Full

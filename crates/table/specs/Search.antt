@@ -2,15 +2,16 @@
 use Prim.Native.Nat.{ℕ}
 use mathlib.Core.Bool.{Bool, true, false, _&&_}
 use mathlib.Core.Option.{Option}
+use mathlib.Core.List.{List}
 use lib.ListN.{length, getD}
 use lib.Dec.{eqb}
 use Rattle.laws.specs.Lists.{position}
 use Rattle.model.specs.Numbers.{queueSlots}
-use Rattle.model.specs.Device.{Place, vacant, occupied, Device}
+use Rattle.model.specs.Device.{Place, vacant, occupied}
 
 -- the place of that number; vacant behind the last
-abbrev pub placeAt : ℕ → Device → Place
-placeAt k d = getD d k vacant
+abbrev pub placeAt : ℕ → List Place → Place
+placeAt k ps = getD ps k vacant
 
 -- the place holds no stream
 abbrev pub isVacant : Place → Bool
@@ -28,11 +29,11 @@ streamIn vacant = 0
 streamIn (occupied m b) = m
 
 -- the place of a stream number, and the lowest vacant place
-abbrev pub findStream : ℕ → Device → Option ℕ
-findStream n d = position (isStream n) d
+abbrev pub findStream : ℕ → List Place → Option ℕ
+findStream n ps = position (isStream n) ps
 
-abbrev pub findVacant : Device → Option ℕ
-findVacant d = position isVacant d
+abbrev pub findVacant : List Place → Option ℕ
+findVacant ps = position isVacant ps
 
 -- both queues have their sixteen slots, so that the place's words are a block
 abbrev pub sized : Place → Bool

@@ -1,7 +1,7 @@
-// The device table (specs/Blocks): eight blocks of 512 words, one for each stream place.
+// The device table (specs/Blocks): eight blocks of 512 words, one for each stream place, and the words behind them.
 ghost use mathlib.Core.Path.{_≡_};
 ghost use Rattle.model.specs.Tables.{freshen};
-ghost use Rattle.table.specs.Layout.{layout};
+ghost use Rattle.table.specs.Blocks.{layout};
 ghost use Rattle.table.specs.Values.{freshened};
 
 mod block;
@@ -28,12 +28,15 @@ pub use search::find_vacant;
 pub use search::is_vacant;
 pub use search::stream_number;
 
-// The used words of a table, its stream places, and the words of one.
-pub const TABLE_WORDS: usize = 4096;
-
+// The stream places, the words of one, and those of all.
 pub const PLACES: usize = 8;
 
 pub const PLACE_WORDS: usize = 512;
+
+pub const BLOCKS_WORDS: usize = 4096;
+
+// The used words of a table: the blocks, and the words behind them.
+pub const TABLE_WORDS: usize = 4096;
 
 // A drain that is owed, with its ticket, or none.
 pub enum Drain {
@@ -47,7 +50,7 @@ pub enum QueueName {
     Output,
 }
 
-// Makes the table fresh: 1 and nothing changed where it has under 4,096 words, else 0 and the first 4,096 words zero.
+// Makes the table fresh: 1 and nothing changed where it is too short, else 0 and the used words zero.
 pub fn fresh(table: &mut [u32]) -> u32
     ensures { λ r. ⌜ freshened r (now (table .exit)) ≡ freshen layout (now (table .entry)) ⌝ }
 {

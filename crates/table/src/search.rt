@@ -1,11 +1,12 @@
-// Searches of the stream places. The contracts speak of every device whose words are lent.
+// Searches of the stream places. The contracts speak of all places whose blocks are lent.
 ghost use mathlib.Core.Path.{_≡_};
 ghost use mathlib.Core.Bool.{true};
+ghost use mathlib.Core.List.{List};
 ghost use lib.ListN.{length};
 ghost use Rattle.laws.specs.Lists.{allOf};
-ghost use Rattle.model.specs.Device.{Place, Device};
+ghost use Rattle.model.specs.Device.{Place};
 ghost use Rattle.words.specs.Found.{foundAt, Within};
-ghost use Rattle.table.specs.Blocks.{placeWords, encode};
+ghost use Rattle.table.specs.Blocks.{placeWords, blocks, blocksSize};
 ghost use Rattle.table.specs.Search.{isVacant, isStream, streamIn, findStream, findVacant, sized};
 use crate::PLACE_WORDS;
 use crate::PLACES;
@@ -42,9 +43,9 @@ pub fn stream_number(b: &[u32]) -> u32
 
 // The place of the stream with that number.
 pub fn find_stream(t: &[u32], number: u32) -> Found
-    requires { ⌜ length (now t) ≡ 4096 ⌝ }
+    requires { ⌜ length (now t) ≡ blocksSize ⌝ }
     ensures within { λ r. ⌜ Within r 8 ⌝ }
-    ensures found { λ r. ⌜ ((d : Device) → allOf sized d ≡ true → now (t .entry) ≡ encode d → foundAt r ≡ findStream number d) ⌝ }
+    ensures found { λ r. ⌜ ((ps : List Place) → allOf sized ps ≡ true → now (t .entry) ≡ blocks ps → foundAt r ≡ findStream number ps) ⌝ }
 {
     let mut k = 0;
     while k < PLACES {
@@ -59,9 +60,9 @@ pub fn find_stream(t: &[u32], number: u32) -> Found
 
 // The lowest vacant place.
 pub fn find_vacant(t: &[u32]) -> Found
-    requires { ⌜ length (now t) ≡ 4096 ⌝ }
+    requires { ⌜ length (now t) ≡ blocksSize ⌝ }
     ensures within { λ r. ⌜ Within r 8 ⌝ }
-    ensures found { λ r. ⌜ ((d : Device) → allOf sized d ≡ true → now (t .entry) ≡ encode d → foundAt r ≡ findVacant d) ⌝ }
+    ensures found { λ r. ⌜ ((ps : List Place) → allOf sized ps ≡ true → now (t .entry) ≡ blocks ps → foundAt r ≡ findVacant ps) ⌝ }
 {
     let mut place = 0;
     while place < PLACES {

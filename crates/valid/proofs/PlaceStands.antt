@@ -21,7 +21,7 @@ use Rattle.model.specs.Tables.{valid}
 use Rattle.words.specs.Words.{queueWords, decodeQueue}
 use Rattle.words.proofs.Records.{queue-length, decoded-slots}
 use Rattle.table.specs.Blocks.{drainIn, headWords, placeWords, encode, decodePlace, decode}
-use Rattle.table.specs.Layout.{layout}
+use Rattle.table.specs.Blocks.{layout}
 use Rattle.table.specs.Search.{placeAt, sized}
 use Rattle.valid.specs.Rules.{headStands, placeStands, foundAgain}
 use Rattle.table.proofs.Records.{head-length, queue-sized, place-length}

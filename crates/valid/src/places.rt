@@ -9,7 +9,7 @@ ghost use Rattle.model.specs.Device.{Place, Device};
 ghost use Rattle.model.specs.WellFormed.{goodPlace};
 ghost use Rattle.model.specs.Tables as tables;
 ghost use Rattle.table.specs.Blocks.{placeWords, encode, decode};
-ghost use Rattle.table.specs.Layout.{layout};
+ghost use Rattle.table.specs.Blocks.{layout};
 ghost use Rattle.table.specs.Search.{placeAt, sized};
 ghost use Rattle.valid.specs.Rules.{headStands, placeStands, foundAgain};
 use crate::queues::all_zero;

@@ -9,26 +9,16 @@ use native.Mathlib.Omega.{arith}
 use lib.ListN.{length, set}
 use lib.Dec.{eqb, ltb, leb}
 use borrow.Author.Tests.{eqb-true, eq-eqb, ltb-false, le-leb}
-use Rattle.laws.specs.Lists.{keep, allOf, isNone, toList, later}
-use Rattle.laws.specs.Tests.{first}
+use Rattle.laws.specs.Lists.{keep, allOf, isNone, toList}
 use Rattle.laws.specs.Ascending.{below, above, insert, ascending, sorted}
-use Rattle.laws.proofs.Tests.{never, both, and-left, first-below, first-holds}
-use Rattle.laws.proofs.Lists.{decide, keep-comm, keep-ascending, ascending-next}
+use Rattle.laws.proofs.Tests.{never, both, and-left}
+use Rattle.laws.proofs.Lists.{decide, no-element, keep-comm, keep-ascending, ascending-next}
 use Rattle.laws.proofs.Ascending.{ascending-sorted, length-ascending}
-use Rattle.laws.proofs.Pieces.{position-first}
+use Rattle.laws.proofs.Positions.{later-some, later-none, position-below, position-holds}
 use Rattle.model.specs.Device.{State, created, queued, dequeued, Slot, free, resource, Buffer, buffer, queuedIn, byResource, bufferOf, present, noSlot, addResource, setState}
 use Rattle.model.proofs.Slots.{Distinct, isRes, queued-only}
 use Rattle.words.specs.Search.{slotAt, isResource, isQueued, numberIn, ticketIn, timestampIn, findResource, findFree, slotOfFirst, nextQueued}
 use Rattle.words.proofs.Least.{key, nothing-below}
-
--- a place one further on
-later-none : (o : Option ℕ) → later o ≡ none → o ≡ none
-later-none none e = refl
-later-none (some j) e = cc
-
-later-some : {P : Type 0} (o : Option ℕ) (k : ℕ) → later o ≡ some k → ((j : ℕ) → k ≡ suc j → o ≡ some j → P) → P
-later-some none k e f = absurd (let z : _≡_ {A = ℕ} 0 1 = cc in omega arith)
-later-some (some j) k e f = f j (let is : k ≡ suc j = cc in is) refl
 
 -- A resource in the slot at k
 
@@ -112,11 +102,9 @@ holding r k s free h e t = never (sym t)
 holding r k s (resource m p) h e t = record { inside = h; state = p; slot = e ∙ ap (λ (n : ℕ). resource n p) (eqb-true m r t) }
 
 module _ (r k : ℕ) (s : List Slot) (found : findResource r s ≡ some k) where
-  at-place : first (length s) (λ i. isResource r (slotAt i s)) ≡ some k
-  at-place = sym (position-first (isResource r) free s) ∙ found
-
   pub find-holds : Holds r k s
-  find-holds = holding r k s (slotAt k s) (first-below _ (length s) k at-place) refl (first-holds _ (length s) k at-place)
+  find-holds =
+      holding r k s (slotAt k s) (position-below (isResource r) free s (length s) refl k found) refl (position-holds (isResource r) free s (length s) refl k found)
 
   pub find-present : present r s ≡ true
   find-present = at-present r (find-holds .state) k s (find-holds .inside) (find-holds .slot)
@@ -153,13 +141,14 @@ find-absent r (resource m p ∷ s) e = decide (eqb m r) (λ t. let z : some 0 �
 pub free-room : (k : ℕ) (s : List Slot) → findFree s ≡ some k → noSlot s ≡ false
 free-room k [] e = cc
 free-room k (free ∷ s) e = refl
-free-room k (resource m p ∷ s) e = later-some (findFree s) k e (λ j _ t. free-room j s t)
+free-room k (resource m p ∷ s) e = let w = later-some (findFree s) k e in free-room (w .0) s (w .1)
 
 pub free-add : (r k : ℕ) (s : List Slot) → findFree s ≡ some k → addResource r s ≡ set s k (resource r created)
 free-add r k [] e = cc
 free-add r k (free ∷ s) e = let z : 0 ≡ k = cc in rw (sym z)
 free-add r k (resource m p ∷ s) e =
-    later-some (findFree s) k e (λ j is t. rw is (ap (λ (l : List Slot). resource m p ∷ l) (free-add r j s t)))
+    let w = later-some (findFree s) k e in
+    rw (w .2) (ap (λ (l : List Slot). resource m p ∷ l) (free-add r (w .0) s (w .1)))
 
 pub free-none : (s : List Slot) → findFree s ≡ none → noSlot s ≡ true
 free-none [] e = refl
@@ -201,11 +190,7 @@ one-sorted none = refl
 one-sorted (some x) = refl
 
 empty-sorted : (l : List Buffer) → ascending key l ≡ [] → l ≡ []
-empty-sorted l e = nil l (sym (length-ascending key l) ∙ ap length e)
-  where
-    nil : (m : List Buffer) → length m ≡ 0 → m ≡ []
-    nil [] h = refl
-    nil (x ∷ m) h = absurd (omega arith)
+empty-sorted l e = no-element l (sym (length-ascending key l) ∙ ap length e)
 
 module _ (least : ℕ) (s : List Slot) (d : Distinct s) where
   -- the Queued buffers from `least` on

@@ -1,29 +1,14 @@
--- What a loop over the slots finds, in the form of the places passed, and what the slots from a place on say of all.
+-- What the slots from a place on say of all.
 use mathlib.Core.Path.{_≡_, refl, sym, ap, _∙_}
-use mathlib.Core.Bool.{Bool, true, false}
-use mathlib.Core.Option.{none, some}
+use mathlib.Core.Bool.{true, false}
 use mathlib.Core.List.{List, _∷_}
 use Prim.Native.Nat.{ℕ, _+_, _<_}
 use native.Mathlib.Numerals.{add-one}
 use lib.ListN.{length, drop}
 use lib.Seq.{drop-cons}
-use Rattle.laws.specs.Lists.{position}
-use Rattle.laws.specs.Tests.{first}
-use Rattle.laws.proofs.Tests.{never, first-found}
-use Rattle.laws.proofs.Pieces.{position-first}
+use Rattle.laws.proofs.Tests.{never}
 use Rattle.model.specs.Device.{created, queued, dequeued, Slot, free, resource, buffer, queuedIn}
 use Rattle.words.specs.Search.{slotAt, isQueued, numberIn, ticketIn, timestampIn}
-
--- the first slot that passes a test
-module _ (p : Slot → Bool) (s : List Slot) (n : ℕ) (long : length s ≡ n) where
-  place : position p s ≡ first n (λ i. p (slotAt i s))
-  place = position-first p free s ∙ ap (λ (m : ℕ). first m (λ i. p (slotAt i s))) long
-
-  pub position-at : (i : ℕ) → i < n → first i (λ j. p (slotAt j s)) ≡ none → p (slotAt i s) ≡ true → some i ≡ position p s
-  position-at i h e t = sym (place ∙ first-found (λ j. p (slotAt j s)) n i h e t)
-
-  pub position-none : first n (λ j. p (slotAt j s)) ≡ none → none ≡ position p s
-  position-none e = sym (place ∙ e)
 
 -- the slots from i on are the slot at i and those behind it
 module _ (s : List Slot) (i : ℕ) (h : i < length s) where

@@ -8,9 +8,9 @@ use native.Mathlib.Omega.{arith}
 use lib.ListN.{length, getD, set, drop}
 use lib.Dec.{eqb}
 use lib.Seq.{getD-take, getD-drop}
-use Rattle.laws.specs.Lists.{allOf}
 use Rattle.laws.specs.Parts.{part, put, pieces, readPieces}
 use Rattle.laws.proofs.Tests.{never}
+use Rattle.laws.proofs.Lists.{all-true}
 use Rattle.laws.proofs.Parts.{part-after, put-after}
 use Rattle.laws.proofs.Stores.{sets-put}
 use Rattle.laws.proofs.Pieces.{pieces-length, pieces-part, pieces-put, pieces-read, read-length}
@@ -32,7 +32,7 @@ queueHead q = flagWord (q .clearing) ∷ q .width ∷ q .height ∷ q .rate ∷ 
 -- four words, and five for each slot
 words-length : (q : Queue) → length (queueWords q) ≡ 4 + 5 * length (q .slots)
 unfolding queueWords
-words-length q = omega (arith, pieces-length slotWords 5 slot-length (q .slots))
+words-length q = omega (arith, pieces-length slotWords 5 (λ s. true) (λ s _. slot-length s) (q .slots) (all-true (q .slots)))
 
 pub queue-length : (q : Queue) → length (q .slots) ≡ 16 → length (queueWords q) ≡ 84
 queue-length q h = omega (arith, words-length q)
@@ -61,14 +61,10 @@ flag-back : (b : Bool) → eqb (flagWord b) 1 ≡ b
 flag-back true = refl
 flag-back false = refl
 
-any : (l : List Slot) → allOf (λ s. true) l ≡ true
-any [] = refl
-any (s ∷ l) = any l
-
 pub decode-queue : (q : Queue) → length (q .slots) ≡ 16 → decodeQueue (queueWords q) ≡ q
 unfolding decodeQueue queueWords
 decode-queue q h =
-    let back : readPieces decodeSlot 5 16 (pieces slotWords (q .slots)) ≡ q .slots = rw h at (pieces-read slotWords 5 slot-length decodeSlot (λ s. true) (λ s _. decode-slot s) (q .slots) (any (q .slots))) in
+    let back : readPieces decodeSlot 5 16 (pieces slotWords (q .slots)) ≡ q .slots = rw h at (pieces-read slotWords 5 (λ s. true) (λ s _. slot-length s) decodeSlot (λ s _. decode-slot s) (q .slots) (all-true (q .slots))) in
     λ i. record { width = q .width; height = q .height; rate = q .rate; clearing = flag-back (q .clearing) i; slots = back i }
 
 -- The slot at i
@@ -78,13 +74,13 @@ module _ (q : Queue) (i : ℕ) (h : i < length (q .slots)) where
   unfolding queueWords queueHead
   slot-part =
       part-after (queueHead q) (pieces slotWords (q .slots)) 4 (5 * i) 5 refl
-      ∙ pieces-part slotWords 5 slot-length (q .slots) i free h
+      ∙ pieces-part slotWords 5 (λ s. true) (λ s _. slot-length s) (q .slots) (all-true (q .slots)) i free h
 
   pub slot-put : (s : Slot) → put (4 + 5 * i) 5 (queueWords q) (slotWords s) ≡ queueWords (withSlots (set (q .slots) i s) q)
   unfolding queueWords queueHead
   slot-put s =
       put-after (queueHead q) (pieces slotWords (q .slots)) 4 (5 * i) 5 (slotWords s) refl
-      ∙ ap (λ (l : List ℕ). queueHead q ++ l) (pieces-put slotWords 5 slot-length (q .slots) i s h)
+      ∙ ap (λ (l : List ℕ). queueHead q ++ l) (pieces-put slotWords 5 (λ s. true) (λ s _. slot-length s) (q .slots) (all-true (q .slots)) i s h)
 
 -- What the words of a slot say
 

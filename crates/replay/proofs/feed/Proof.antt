@@ -3,7 +3,7 @@ use mathlib.Core.Path.{ap}
 use mathlib.Core.List.{List}
 use Prim.Native.Nat.{ℕ}
 use Rattle.laws.proofs.Stores.{wrote-length}
-use Rattle.table.specs.Layout.{layout}
+use Rattle.table.specs.Blocks.{layout}
 use Rattle.line.specs.Reading.{onPiece}
 use Rattle.replay.proofs.Steps.{as-call, used-some}
 use borrow.Author.Needs.{needs}

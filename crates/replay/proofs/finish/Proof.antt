@@ -2,7 +2,7 @@
 use mathlib.Core.Path.{ap}
 use mathlib.Core.List.{List}
 use Prim.Native.Nat.{ℕ}
-use Rattle.table.specs.Layout.{layout}
+use Rattle.table.specs.Blocks.{layout}
 use Rattle.line.specs.Reading.{lastStep}
 use Rattle.replay.proofs.Steps.{as-logged}
 use borrow.Author.Needs.{needs}

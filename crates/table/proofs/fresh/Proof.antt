@@ -9,6 +9,7 @@ use borrow.Author.Needs.{needs}
 use Rattle.table.proofs.Theorems.{fresh-is-zero}
 use Rattle.table.specs.Values.{freshened}
 use Rattle.laws.specs.Parts.{zeros}
+use Rattle.model.specs.Numbers.{tableWords}
 use Rattle.model.specs.Tables.{freshen}
 use Rattle.table.proofs.fresh.Statement.{statement}
 use Rattle.table.proofs.fresh.Tie as tie
@@ -37,7 +38,7 @@ unfolding freshen
 returns-2 c =
     let t = c .before .before .before .before .before .before .args .table .now in
     let long = c .before .before .before .before .if1 .left in
-    rw (le-ltb _ _ long) (ap (λ (w : List ℕ). freshened 0 (w ++ drop 4096 t)) (c .before .before .clear .ensures ∙ ap zeros (length-take-le 4096 t long) ∙ sym fresh-is-zero))
+    rw (le-ltb _ _ long) (ap (λ (w : List ℕ). freshened 0 (w ++ drop tableWords t)) (c .before .before .clear .ensures ∙ ap zeros (length-take-le tableWords t long) ∙ sym fresh-is-zero))
 
 pub fresh-spec : {M : Type 1} → statement M
 fresh-spec =

@@ -6,7 +6,7 @@ use lib.ListN.{length}
 use lib.Seq.{length-take-le}
 use borrow.Author.Needs.{needs}
 use Rattle.model.specs.Tables.{effect}
-use Rattle.table.specs.Layout.{layout}
+use Rattle.table.specs.Blocks.{layout}
 use Rattle.line.specs.declared.Frame.{Frame}
 use Rattle.line.specs.Line.{framed, countIn}
 use Rattle.replay.proofs.lines.carry_out.Statement.{statement}

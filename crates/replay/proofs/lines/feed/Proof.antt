@@ -6,7 +6,7 @@ use lib.ListN.{take}
 use lib.Seq.{length-take-le}
 use borrow.Author.Needs.{needs}
 use borrow.Author.Tests.{not-true, not-false}
-use Rattle.table.specs.Layout.{layout}
+use Rattle.table.specs.Blocks.{layout}
 use Rattle.replay.proofs.Steps.{call-open, call-ended}
 use Rattle.replay.proofs.lines.feed.Statement.{statement}
 use Rattle.replay.proofs.lines.feed.Tie as tie

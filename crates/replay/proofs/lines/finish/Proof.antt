@@ -2,7 +2,7 @@
 use mathlib.Core.Path.{sym}
 use native.Mathlib.Omega.{arith}
 use lib.Seq.{length-take-le}
-use Rattle.table.specs.Layout.{layout}
+use Rattle.table.specs.Blocks.{layout}
 use Rattle.replay.proofs.Steps.{end-empty, end-line}
 use borrow.Author.Needs.{needs}
 use Rattle.replay.proofs.lines.finish.Statement.{statement}

@@ -5,7 +5,7 @@ use native.Mathlib.Omega.{arith}
 use denote.Ref.{now}
 use lib.Seq.{length-take-le}
 use borrow.Author.Needs.{needs}
-use Rattle.table.specs.Layout.{layout}
+use Rattle.table.specs.Blocks.{layout}
 use Rattle.line.specs.declared.Decoded.{Decoded}
 use Rattle.line.specs.Line.{decoded, countOf}
 use Rattle.replay.proofs.Steps.{small, few, short, whole, logged, logged-refused}

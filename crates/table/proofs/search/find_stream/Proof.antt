@@ -2,28 +2,29 @@
 use mathlib.Core.Path.{_≡_, sym, _∙_}
 use mathlib.Core.Bool.{true}
 use mathlib.Core.Option.{none}
+use mathlib.Core.List.{List}
 use Prim.Native.Nat.{_≤_, _-_}
 use native.Mathlib.Omega.{arith}
 use borrow.Author.Needs.{needs}
 use Rattle.laws.specs.Lists.{allOf}
 use Rattle.laws.specs.Tests.{first}
 use Rattle.laws.proofs.Tests.{first-none, first-more}
-use Rattle.model.specs.Device.{Device}
-use Rattle.table.specs.Blocks.{encode}
+use Rattle.laws.proofs.Positions.{position-at, position-none}
+use Rattle.model.specs.Device.{Place, vacant}
+use Rattle.table.specs.Blocks.{blocks}
 use Rattle.table.specs.Search.{placeAt, isStream, sized}
 use Rattle.table.proofs.Records.{held-places, place-read}
-use Rattle.table.proofs.Looked.{looked, looked-all}
 use Rattle.table.proofs.search.find_stream.Statement.{statement}
 use Rattle.table.proofs.search.find_stream.Tie as tie
 
 abbrev Inv-loop : tie.InvT-loop
-Inv-loop t number k₀ k = (k ≤ 8) × ((d : Device) → allOf sized d ≡ true → t ≡ encode d → first k (λ j. isStream number (placeAt j d)) ≡ none)
+Inv-loop t number k₀ k = (k ≤ 8) × ((ps : List Place) → allOf sized ps ≡ true → t ≡ blocks ps → first k (λ j. isStream number (placeAt j ps)) ≡ none)
 
 abbrev μ-loop : tie.MeasureT-loop
 μ-loop t number k₀ k = 8 - k
 
 loop-holds : tie.Need-loop-holds Inv-loop μ-loop
-loop-holds c = (search needs, λ d s e. first-none (λ j. isStream (c .before .args .number) (placeAt j d)))
+loop-holds c = (search needs, λ ps s e. first-none (λ j. isStream (c .before .args .number) (placeAt j ps)))
 
 mul-at : tie.Need-mul-at Inv-loop μ-loop
 mul-at c = search needs
@@ -49,11 +50,11 @@ holds-stream-requires c κs = search needs
 returns : tie.Need-returns Inv-loop μ-loop
 returns c = (
   search needs,
-  λ d s e.
+  λ ps s e.
       let a = c .before .before .before .before .before .before in
       let l = c .before .before .before .before .loop in
-      let test = c .before .holds-stream .ensures (placeAt (l .k) d) (place-read _ d (l .k) (a .pre) (search needs) s e) in
-      sym (looked (isStream (a .args .number)) d (l .k) (held-places _ d s (a .pre) e) (search needs) (l .inv .1 d s e) (sym test ∙ c .if1 .taken)),
+      let test = c .before .holds-stream .ensures (placeAt (l .k) ps) (place-read _ ps (l .k) (a .pre) (search needs) s e) in
+      sym (position-at (isStream (a .args .number)) vacant ps 8 (held-places _ ps s (a .pre) e) (l .k) (search needs) (l .inv .1 ps s e) (sym test ∙ c .if1 .taken)),
 )
 
 add-k : tie.Need-add-k Inv-loop μ-loop
@@ -65,20 +66,21 @@ loop-less c = search needs
 loop-again : tie.Need-loop-again Inv-loop μ-loop
 loop-again c = (
   search needs,
-  λ d s e.
+  λ ps s e.
       let a = c .before .before .before .before .before .before in
       let l = c .before .before .before .before .loop in
-      let test = c .before .holds-stream .ensures (placeAt (l .k) d) (place-read _ d (l .k) (a .pre) (search needs) s e) in
-      first-more (λ j. isStream (a .args .number) (placeAt j d)) (l .k) (l .inv .1 d s e) (sym test ∙ c .if1 .left),
+      let test = c .before .holds-stream .ensures (placeAt (l .k) ps) (place-read _ ps (l .k) (a .pre) (search needs) s e) in
+      first-more (λ j. isStream (a .args .number) (placeAt j ps)) (l .k) (l .inv .1 ps s e) (sym test ∙ c .if1 .left),
 )
 
 returns-2 : tie.Need-returns-2 Inv-loop μ-loop
 returns-2 c = (
   search needs,
-  λ d s e.
+  λ ps s e.
       let a = c .before .before .before in
       let l = c .before .loop in
-      sym (looked-all (isStream (a .args .number)) d (l .k) (held-places _ d s (a .pre) e) (omega (arith, c .loop-test .left)) (l .inv .1 d s e)),
+      let end : l .k ≡ 8 = omega (arith, c .loop-test .left) in
+      sym (position-none (isStream (a .args .number)) vacant ps 8 (held-places _ ps s (a .pre) e) (rw end at (l .inv .1 ps s e))),
 )
 
 pub find-stream-spec : {M : Type 1} → statement M

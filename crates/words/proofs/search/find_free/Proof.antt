@@ -6,11 +6,11 @@ use native.Mathlib.Omega.{arith}
 use borrow.Author.Needs.{needs}
 use Rattle.laws.specs.Tests.{first}
 use Rattle.laws.proofs.Tests.{first-none, first-more}
-use Rattle.model.specs.Device.{Queue}
+use Rattle.model.specs.Device.{free, Queue}
 use Rattle.words.specs.Words.{queueWords}
 use Rattle.words.specs.Search.{slotAt, isFree}
 use Rattle.words.proofs.Records.{held-slots}
-use Rattle.words.proofs.Finds.{position-at, position-none}
+use Rattle.laws.proofs.Positions.{position-at, position-none}
 use Rattle.words.proofs.search.find_free.Statement.{statement}
 use Rattle.words.proofs.search.find_free.Tie as tie
 
@@ -32,7 +32,7 @@ returns c =
     let l = c .before .before .before .loop in (
       search needs,
       λ Q e.
-          position-at (isFree) (Q .slots) 16 (held-slots _ Q (s .pre) e) (l .k) (search needs) (l .inv .1 Q e) (sym (c .before .slot-free .ensures Q e) ∙ c .if1 .taken),
+          sym (position-at isFree free (Q .slots) 16 (held-slots _ Q (s .pre) e) (l .k) (search needs) (l .inv .1 Q e) (sym (c .before .slot-free .ensures Q e) ∙ c .if1 .taken)),
     )
 
 add-k : tie.Need-add-k Inv-loop μ-loop
@@ -52,7 +52,7 @@ returns-2 c =
     let s = c .before .before .before in
     let l = c .before .loop in
     let end : l .k ≡ 16 = omega (arith, c .loop-test .left) in
-    (search needs, λ Q e. position-none (isFree) (Q .slots) 16 (held-slots _ Q (s .pre) e) (rw end at (l .inv .1 Q e)))
+    (search needs, λ Q e. sym (position-none isFree free (Q .slots) 16 (held-slots _ Q (s .pre) e) (rw end at (l .inv .1 Q e))))
 
 pub find-free-spec : {M : Type 1} → statement M
 find-free-spec =

@@ -6,11 +6,11 @@ use native.Mathlib.Omega.{arith}
 use borrow.Author.Needs.{needs}
 use Rattle.laws.specs.Tests.{first}
 use Rattle.laws.proofs.Tests.{first-none, first-more}
-use Rattle.model.specs.Device.{Queue}
+use Rattle.model.specs.Device.{free, Queue}
 use Rattle.words.specs.Words.{queueWords}
 use Rattle.words.specs.Search.{slotAt, isResource}
 use Rattle.words.proofs.Records.{held-slots}
-use Rattle.words.proofs.Finds.{position-at, position-none}
+use Rattle.laws.proofs.Positions.{position-at, position-none}
 use Rattle.words.proofs.search.find_resource.Statement.{statement}
 use Rattle.words.proofs.search.find_resource.Tie as tie
 
@@ -32,7 +32,7 @@ returns c =
     let l = c .before .before .before .loop in (
       search needs,
       λ Q e.
-          position-at (isResource (s .args .number)) (Q .slots) 16 (held-slots _ Q (s .pre) e) (l .i) (search needs) (l .inv .1 Q e) (sym (c .before .slot-holds .ensures Q e) ∙ c .if1 .taken),
+          sym (position-at (isResource (s .args .number)) free (Q .slots) 16 (held-slots _ Q (s .pre) e) (l .i) (search needs) (l .inv .1 Q e) (sym (c .before .slot-holds .ensures Q e) ∙ c .if1 .taken)),
     )
 
 add-i : tie.Need-add-i Inv-loop μ-loop
@@ -52,7 +52,7 @@ returns-2 c =
     let s = c .before .before .before in
     let l = c .before .loop in
     let end : l .i ≡ 16 = omega (arith, c .loop-test .left) in
-    (search needs, λ Q e. position-none (isResource (s .args .number)) (Q .slots) 16 (held-slots _ Q (s .pre) e) (rw end at (l .inv .1 Q e)))
+    (search needs, λ Q e. sym (position-none (isResource (s .args .number)) free (Q .slots) 16 (held-slots _ Q (s .pre) e) (rw end at (l .inv .1 Q e))))
 
 pub find-resource-spec : {M : Type 1} → statement M
 find-resource-spec =

@@ -1,4 +1,4 @@
--- The layout of the device table, and what is promised of it. Each statement is proved in proofs/.
+-- What is promised of the table's layout and over its tables. Each statement is proved in proofs/Theorems.
 use Prim.Native.Nat.{ℕ}
 use mathlib.Core.Path.{_≡_}
 use mathlib.Core.Bool.{true}
@@ -10,14 +10,10 @@ use Rattle.laws.specs.Parts.{zeros}
 use Rattle.model.specs.Numbers.{tableWords}
 use Rattle.model.specs.Device.{Device, fresh}
 use Rattle.model.specs.WellFormed.{u32, wellFormed}
-use Rattle.model.specs.Tables.{Layout, Lawful, valid}
+use Rattle.model.specs.Tables.{Lawful, valid}
 use Rattle.model.specs.Promises.{FreshShort, FreshLong, RefusalChangesNothing, ErrorChangesNothing, KeepsRest, StaysValid, OnlyListed, NoTableRefusal, WritesAtMost, NoMarkInTables}
 use Rattle.model.specs.Condition3.{OnTables}
-use Rattle.table.specs.Blocks.{encode, decode}
-
--- the one layout of this device
-abbrev pub layout : Layout
-layout = record { encode = encode; decode = decode }
+use Rattle.table.specs.Blocks.{encode, layout}
 
 -- it meets the two laws
 abbrev pub MeetsLaws : Type 0
