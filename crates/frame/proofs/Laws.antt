@@ -2,46 +2,21 @@
 use mathlib.Core.Path.{_≡_, refl, sym, ap, _∙_}
 use mathlib.Core.Bool.{Bool, true, false, not, _&&_, _||_, true≢false, false≢true}
 use mathlib.Core.List.{List, [], _∷_}
-use mathlib.Core.Option.{Option, none, some}
-use Prim.Native.Nat.{ℕ, zero, suc, _+_, _*_, _-_, _^_, _≤_, _<_}
+use mathlib.Core.Option.{none, some}
+use Prim.Native.Nat.{ℕ, zero, suc, _+_, _*_, _-_, _^_, _<_}
 use native.Mathlib.Numerals.{add-one}
 use native.Mathlib.Omega.{arith}
 use lib.Dec.{leb, ltb, eqb}
 use lib.ListN.{length, getD, take, drop}
 use lib.Seq.{drop-drop, take-suc}
-use borrow.Author.Tests.{le-leb, lt-ltb, le-ltb, not-true, not-false, ne-eqb, eq-eqb, leb-true, leb-false}
-use Rattle.laws.specs.Tests.{within}
+use borrow.Author.Tests.{ne-eqb}
 use Rattle.laws.specs.Lists.{total}
-use Rattle.laws.proofs.Tests.{leb-same}
+use Rattle.laws.proofs.Tests.{leb-same, leb-not-ltb}
 use Rattle.laws.proofs.Lists.{decide, total-append}
 use Rattle.tag.specs.Tag.{nulAt, goodTag, tagLength}
-use Rattle.model.specs.Frames.{word, wordsAt, numEntries, entryAddr, entryLength, entryBytes, commandOf}
-use Rattle.model.specs.Answers.{ErrorCode}
-use Rattle.frame.specs.Meant.{errorOf}
+use Rattle.model.specs.Frames.{word, wordsAt, numEntries, entryAddr, entryLength, entryBytes}
 use Rattle.model.specs.Commands.{badEntry}
 use Rattle.frame.specs.Frame.{goodEntry}
-
--- Tests on a number that was read, and tests that a callee made
-
-pub same-test : {r n m : ℕ} → r ≡ n → r ≡ m → eqb n m ≡ true
-same-test {r} {n} {m} p q = eq-eqb n m (sym p ∙ q)
-
-pub other-test : {r n m : ℕ} → r ≡ n → (r ≡ m → ⊥) → eqb n m ≡ false
-other-test {r} {n} {m} p q = ne-eqb n m (λ e. q (p ∙ e))
-
-pub passed : {r t : Bool} → r ≡ t → not r ≡ false → t ≡ true
-passed {r} p q = sym p ∙ not-false r q
-
-pub refused : {r t : Bool} → r ≡ t → not r ≡ true → t ≡ false
-refused {r} p q = sym p ∙ not-true r q
-
--- a number from lo to hi, by the code's two tests, and one that is not above a bound
-pub range-test : (x lo hi : ℕ) → lo ≤ x → leb x hi ≡ within x lo hi
-unfolding within
-range-test x lo hi h = rw (le-leb lo x h)
-
-pub leb-not-ltb : (a b : ℕ) → leb a b ≡ not (ltb b a)
-leb-not-ltb a b = decide (leb a b) (λ e. rw (e, le-ltb b a (leb-true a b e))) (λ e. rw (e, lt-ltb b a (leb-false a b e)))
 
 -- a tag of which the length was found
 pub tag-found : (t : List ℕ) (n : ℕ) → some n ≡ tagLength t → true ≡ goodTag t
@@ -51,14 +26,6 @@ tag-found t n e = decide (goodTag t) (λ g. sym g) (λ g. absurd (let z : _≡_ 
 pub tag-missed : (t : List ℕ) → none ≡ tagLength t → false ≡ goodTag t
 unfolding tagLength
 tag-missed t e = decide (goodTag t) (λ g. absurd (let z : _≡_ {A = ℕ} 0 1 = let w : none ≡ some (nulAt t) = rw g at e in cc in omega arith)) (λ g. sym g)
-
--- a type that is not equal to n, the way round that the model's lines have it
-pub unlike : (k n : ℕ) → (k ≡ n → ⊥) → eqb n k ≡ false
-unlike k n h = ne-eqb n k (λ e. h (sym e))
-
--- a type that is equal to k has the line of k
-pub of-type : {r : Option ErrorCode} {kind k : ℕ} (len : ℕ) → kind ≡ k → r ≡ errorOf (commandOf k) len → r ≡ errorOf (commandOf kind) len
-of-type len e h = rw e h
 
 -- Sums of entry counts
 

@@ -1,32 +1,62 @@
--- What the answers of `length_check` and `queue_named` stand for.
+-- What the code's commands and its test of a frame's type and length stand for.
 use mathlib.Core.Bool.{cond}
 use mathlib.Core.Option.{Option, none, some}
 use Prim.Native.Nat.{ℕ}
-use Rattle.model.specs.Device.{QueueType, input, output}
-use Rattle.model.specs.Frames.{CommandLine, wrongLength}
-use Rattle.model.specs.Frames.{Length as Rule}
+use Rattle.model.specs.Frames.{createResource, queueResource, destroyAll, clear, getParameters, setParameters, destroy, drain, control, toQueue, create, live, exactly, atLeast, CommandLine, wrongLength}
+use Rattle.model.specs.Frames as model
 use Rattle.model.specs.Answers.{ErrorCode, invalidOperation, invalidParameter}
-use Rattle.frame.specs.declared.Length.{Length}
-use Rattle.frame.specs.declared.Length.the-variants.{Unknown, Wrong, Right}
-use Rattle.frame.specs.declared.Named.{Named}
-use Rattle.frame.specs.declared.Named.the-variants.{Input, Output, Neither}
+use Rattle.frame.specs.declared.commands.QueueCommand.{QueueCommand}
+use Rattle.frame.specs.declared.commands.QueueCommand.the-variants.{CreateResource, QueueResource, DestroyAll, Clear, GetParameters, SetParameters}
+use Rattle.frame.specs.declared.commands.LiveCommand.{LiveCommand}
+use Rattle.frame.specs.declared.commands.LiveCommand.the-variants.{Destroy, Drain, Control, ToQueue}
+use Rattle.frame.specs.declared.commands.Command.{Command}
+use Rattle.frame.specs.declared.commands.Command.the-variants.{Create, Live}
+use Rattle.frame.specs.declared.commands.Line.{Line}
+use Rattle.frame.specs.declared.commands.Line.the-variants.{Exactly, AtLeast, Missing}
+use Rattle.frame.specs.declared.commands.Checked.{Checked}
+use Rattle.frame.specs.declared.commands.Checked.the-variants.{Unknown, Wrong, Right}
 
--- the error that answers an unknown type (0x0300) or a wrong length (0x0304)
-abbrev pub lengthError : Length → Option ErrorCode
-lengthError Unknown = some invalidOperation
-lengthError Wrong = some invalidParameter
-lengthError Right = none
+-- the model's commands
+abbrev pub queueCommandOf : QueueCommand → model.QueueCommand
+queueCommandOf CreateResource = createResource
+queueCommandOf QueueResource = queueResource
+queueCommandOf DestroyAll = destroyAll
+queueCommandOf Clear = clear
+queueCommandOf GetParameters = getParameters
+queueCommandOf SetParameters = setParameters
 
--- the error of a frame of n bytes for a command with a rule of length, and for a command's line, where its type has one
-abbrev pub lengthOf : Rule → ℕ → Option ErrorCode
-lengthOf l n = cond (wrongLength l n) (some invalidParameter) none
+abbrev pub liveCommandOf : LiveCommand → model.LiveCommand
+liveCommandOf Destroy = destroy
+liveCommandOf Drain = drain
+liveCommandOf Control = control
+liveCommandOf (ToQueue k) = toQueue (queueCommandOf k)
 
-abbrev pub errorOf : Option CommandLine → ℕ → Option ErrorCode
-errorOf none n = some invalidOperation
-errorOf (some l) n = lengthOf (l .rule) n
+abbrev pub meant : Command → model.Command
+meant Create = create
+meant (Live k) = live (liveCommandOf k)
 
--- the queue of type 0x100 or 0x101
-abbrev pub queueMeant : Named → Option QueueType
-queueMeant Input = some input
-queueMeant Output = some output
-queueMeant Neither = none
+-- what the type and the length of a frame say: an error, or the command
+pub data Verdict : Type 0 where
+  wrong : ErrorCode → Verdict
+  right : model.Command → Verdict
+
+-- of a frame of n bytes for a command with a rule of length
+abbrev pub ruled : model.Length → model.Command → ℕ → Verdict
+ruled rule c n = cond (wrongLength rule n) (wrong invalidParameter) (right c)
+
+-- of one whose type has that line in the table of commands, or none
+abbrev pub verdict : Option CommandLine → ℕ → Verdict
+verdict none n = wrong invalidOperation
+verdict (some l) n = ruled (l .rule) (l .command) n
+
+-- the same, by the code's line
+abbrev pub lineVerdict : Line → ℕ → Verdict
+lineVerdict (Exactly k c) n = ruled (exactly k) (meant c) n
+lineVerdict (AtLeast k c) n = ruled (atLeast k) (meant c) n
+lineVerdict Missing n = wrong invalidOperation
+
+-- what the code's test found
+abbrev pub verdictOf : Checked → Verdict
+verdictOf Unknown = wrong invalidOperation
+verdictOf Wrong = wrong invalidParameter
+verdictOf (Right c) = right (meant c)

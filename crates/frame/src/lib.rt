@@ -1,40 +1,26 @@
-// Checks of a command's frame: its length, and the fields of its payload, which is read as the part of the frame from offset 8 and never copied.
+// Checks of a command's frame: its type and length, and the fields of its payload, which is read as the part of the frame from offset 8 and never copied.
 ghost use mathlib.Core.Path.{_≡_};
 ghost use Prim.Native.Nat.{_+_, _*_, _≤_};
 ghost use mathlib.Core.Bool.{not};
 ghost use lib.ListN.{length, take};
-ghost use Rattle.laws.specs.Tests.{within};
 ghost use Rattle.laws.specs.Lists.{total};
 ghost use Rattle.tag.specs.Tag.{goodTag, tagIn};
-ghost use Rattle.model.specs.Frames.{commandOf, exactly, atLeast, queueNamed, commandType, streamId, codedFormat, queueType, resourceId, numEntries, timestampSent, frameWidth, frameHeight, frameRate};
-ghost use Rattle.model.specs.Commands.{badEntry, goodExtent};
+ghost use Rattle.model.specs.Frames.{commandType, streamId, codedFormat, queueType, resourceId, numEntries, timestampSent, frameWidth, frameHeight, frameRate};
+ghost use Rattle.model.specs.Commands.{badEntry};
 ghost use Rattle.frame.specs.Frame.{goodCreation, goodEntry, goodEntries, goodResource, goodSizes, goodSet};
-ghost use Rattle.frame.specs.Meant.{lengthError, lengthOf, errorOf, queueMeant};
+use protocol::MOST_PLANES;
+use protocol::coded_good;
+use protocol::extent_good;
+use protocol::in_range;
 
-// The types of the commands.
-pub const CREATE: u32 = 0x0101;
+mod commands;
 
-pub const DESTROY: u32 = 0x0102;
-
-pub const DRAIN: u32 = 0x0103;
-
-pub const CREATE_RESOURCE: u32 = 0x0104;
-
-pub const QUEUE_RESOURCE: u32 = 0x0105;
-
-pub const DESTROY_ALL: u32 = 0x0106;
-
-pub const CLEAR: u32 = 0x0107;
-
-pub const GET_PARAMETERS: u32 = 0x0108;
-
-pub const SET_PARAMETERS: u32 = 0x0109;
-
-pub const QUERY_CONTROL: u32 = 0x010A;
-
-pub const GET_CONTROL: u32 = 0x010B;
-
-pub const SET_CONTROL: u32 = 0x010C;
+pub use commands::Checked;
+pub use commands::Command;
+pub use commands::Line;
+pub use commands::LiveCommand;
+pub use commands::QueueCommand;
+pub use commands::check;
 
 // Offsets in the payload, by the draft's structs. stream_create:
 const IN_MEM_TYPE: usize = 0;
@@ -69,55 +55,9 @@ const FRAME_HEIGHT: usize = 12;
 
 const FRAME_RATE: usize = 40;
 
-// What the type and the length of a frame say: an unknown type, a length that the command cannot have, or neither.
-pub enum Length {
-    Unknown,
-    Wrong,
-    Right,
-}
-
-// The queue that a number names.
-pub enum Named {
-    Input,
-    Output,
-    Neither,
-}
-
-// Tests the type of a command and then its length.
-pub fn length_check(kind: u32, len: usize) -> Length
-    ensures { λ r. ⌜ lengthError r ≡ errorOf (commandOf kind) len ⌝ }
-{
-    match kind {
-        CREATE => exact(len, 88),
-        DESTROY => exact(len, 8),
-        DRAIN => exact(len, 8),
-        CREATE_RESOURCE => least(len, 88),
-        QUEUE_RESOURCE => exact(len, 64),
-        DESTROY_ALL => exact(len, 16),
-        CLEAR => exact(len, 16),
-        GET_PARAMETERS => exact(len, 16),
-        SET_PARAMETERS => exact(len, 120),
-        QUERY_CONTROL => exact(len, 16),
-        GET_CONTROL => exact(len, 16),
-        SET_CONTROL => least(len, 16),
-        _ => Length::Unknown,
-    }
-}
-
-// The queue of a queue type.
-pub fn queue_named(n: u32) -> Named
-    ensures { λ r. ⌜ queueMeant r ≡ queueNamed n ⌝ }
-{
-    match n {
-        0x0100 => Named::Input,
-        0x0101 => Named::Output,
-        _ => Named::Neither,
-    }
-}
-
-// Whether the frame of a create, 88 bytes, has memory types of 0, a coded format and a good tag.
+// Whether the frame of a create has memory types of 0, a coded format and a good tag.
 pub fn creation_good(frame: &[u8]) -> bool
-    requires { ⌜ length (now frame) ≡ 88 ⌝ }
+    requires { ⌜ 88 ≤ length (now frame) ⌝ }
     ensures { λ r. ⌜ r ≡ goodCreation (now (frame .entry)) ⌝ }
 {
     if field::payload_u32(frame, IN_MEM_TYPE) != 0 {
@@ -126,7 +66,7 @@ pub fn creation_good(frame: &[u8]) -> bool
     if field::payload_u32(frame, OUT_MEM_TYPE) != 0 {
         return false;
     }
-    if !in_range(coded_format(frame), 0x1000, 0x1005) {
+    if !coded_good(coded_format(frame)) {
         return false;
     }
     tag_good(frame)
@@ -141,7 +81,7 @@ pub fn resource_good(frame: &[u8]) -> bool
         return false;
     }
     let planes = field::payload_u32(frame, NUM_PLANES);
-    if !in_range(planes, 1, 8) {
+    if !in_range(planes, 1, MOST_PLANES) {
         return false;
     }
     let sum = entry_sum(frame, planes as usize);
@@ -153,7 +93,7 @@ pub fn sizes_good(frame: &[u8]) -> bool
     requires { ⌜ 64 ≤ length (now frame) ⌝ }
     ensures { λ r. ⌜ r ≡ goodSizes (now (frame .entry)) ⌝ }
 {
-    field::payload_u32(frame, NUM_DATA_SIZES) <= 8
+    field::payload_u32(frame, NUM_DATA_SIZES) <= MOST_PLANES
 }
 
 // Whether the frame of a set, 120 bytes, has the queue's format and a good width and height.
@@ -243,39 +183,9 @@ pub fn frame_rate(frame: &[u8]) -> u32
     field::payload_u32(frame, FRAME_RATE)
 }
 
-// Tests the length of a command that has n bytes.
-fn exact(len: usize, n: usize) -> Length
-    ensures { λ r. ⌜ lengthError r ≡ lengthOf (exactly n) len ⌝ }
-{
-    if len == n {
-        return Length::Right;
-    }
-    Length::Wrong
-}
-
-// Tests the length of a command that has n bytes or more.
-fn least(len: usize, n: usize) -> Length
-    ensures { λ r. ⌜ lengthError r ≡ lengthOf (atLeast n) len ⌝ }
-{
-    if len < n {
-        return Length::Wrong;
-    }
-    Length::Right
-}
-
-// Whether x lies from lo to hi, both included.
-fn in_range(x: u32, lo: u32, hi: u32) -> bool
-    ensures { λ r. ⌜ r ≡ within x lo hi ⌝ }
-{
-    if x < lo {
-        return false;
-    }
-    x <= hi
-}
-
 // Whether the tag of a create is good.
 fn tag_good(frame: &[u8]) -> bool
-    requires { ⌜ length (now frame) ≡ 88 ⌝ }
+    requires { ⌜ 88 ≤ length (now frame) ⌝ }
     ensures { λ r. ⌜ r ≡ goodTag (tagIn (now (frame .entry))) ⌝ }
 {
     let tag = &frame[24..88];
@@ -348,14 +258,4 @@ fn entry_good(entry: &[u8]) -> bool
         return false;
     }
     len - 1 <= 18446744073709551615 - address
-}
-
-// Whether a width or a height is from 16 to 4,096, and even.
-fn extent_good(v: u32) -> bool
-    ensures { λ r. ⌜ r ≡ goodExtent v ⌝ }
-{
-    if !in_range(v, 16, 4096) {
-        return false;
-    }
-    v % 2 == 0
 }

@@ -1,13 +1,13 @@
 -- Laws of tests: both of two, of numbers, and of the bounded tests in the form that a loop which counts up wants (nothing yet, one more, the way out).
 use mathlib.Core.Path.{_≡_, refl, sym, _∙_}
-use mathlib.Core.Bool.{Bool, true, false, _&&_, and-false, and-eq-true-iff, true≢false, false≢true}
+use mathlib.Core.Bool.{Bool, true, false, not, _&&_, and-false, and-eq-true-iff, true≢false, false≢true}
 use mathlib.Core.Option.{Option, none, some}
 use Prim.Native.Nat.{ℕ, zero, suc, _+_, _≤_, _<_}
 use native.Mathlib.Numerals.{add-one}
 use native.Mathlib.Decide.{le-ind}
 use native.Mathlib.Omega.{arith}
-use lib.Dec.{leb}
-use borrow.Author.Tests.{le-leb, lt-leb, leb-true}
+use lib.Dec.{leb, ltb, eqb}
+use borrow.Author.Tests.{le-leb, lt-leb, leb-true, le-ltb, ltb-false, eq-eqb, ne-eqb, not-true, not-false}
 use Rattle.laws.specs.Tests.{within, allBelow, first}
 
 -- a test is not true and false
@@ -48,8 +48,31 @@ and-fails a b e = rw e
 pub and-holds : (a b r : Bool) → a ≡ true → r ≡ b → r ≡ a && b
 and-holds a b r e h = rw e h
 
+-- what a callee tested, where the code goes on by its negation
+pub passed : {r t : Bool} → r ≡ t → not r ≡ false → t ≡ true
+passed {r} p q = sym p ∙ not-false r q
+
+pub refused : {r t : Bool} → r ≡ t → not r ≡ true → t ≡ false
+refused {r} p q = sym p ∙ not-true r q
+
+-- what the code tested of the number r, which is n
+pub same-test : {r n m : ℕ} → r ≡ n → r ≡ m → eqb n m ≡ true
+same-test {r} {n} {m} p q = eq-eqb n m (sym p ∙ q)
+
+pub other-test : {r n m : ℕ} → r ≡ n → (r ≡ m → ⊥) → eqb n m ≡ false
+other-test {r} {n} {m} p q = ne-eqb n m (λ e. q (p ∙ e))
+
+-- not above is at most
+pub leb-not-ltb : (a b : ℕ) → leb a b ≡ not (ltb b a)
+leb-not-ltb a b =
+    tests-same (leb a b) (not (ltb b a)) (λ e. rw (le-ltb b a (leb-true a b e))) (λ e. le-leb a b (ltb-false b a (not-true (ltb b a) e)))
+
 -- a number from lo to hi
 module _ (x lo hi : ℕ) where
+  pub within-from : lo ≤ x → leb x hi ≡ within x lo hi
+  unfolding within
+  within-from h = rw (le-leb lo x h)
+
   pub within-true : lo ≤ x → x ≤ hi → within x lo hi ≡ true
   unfolding within
   within-true l h = both (le-leb lo x l) (le-leb x hi h)

@@ -21,7 +21,7 @@ use Rattle.answer.specs.Answer.{answerTo}
 use Rattle.frame.specs.Frame.{goodCreation}
 use Rattle.frame.specs.Meant.{errorOf}
 use Rattle.frame.proofs.Laws.{unlike}
-use Rattle.frame.proofs.Commands.{first-hit, first-miss, length-error, length-right, creation-bad, creation-good}
+use Rattle.frame.proofs.Checks.{first-hit, first-miss, length-error, length-right, creation-bad, creation-good}
 use Rattle.stream.specs.Replied.{asked}
 use Rattle.steps.specs.Served.{Known}
 

@@ -15,7 +15,7 @@ use Rattle.model.proofs.Slots.{Distinct}
 use Rattle.words.specs.Search.{slotAt, isQueued, numberIn, findResource, findFree}
 use Rattle.words.proofs.Bridge.{find-present, find-absent, find-number, find-set, find-queued, free-room, free-add, free-none}
 use Rattle.frame.specs.Frame.{goodResource, goodSizes, goodSet}
-use Rattle.frame.proofs.Commands.{first-hit, first-miss, resource-good, queue-good, set-good}
+use Rattle.frame.proofs.Checks.{first-hit, first-miss, resource-good, queue-good, set-good}
 use Rattle.stream.specs.declared.Target.{Target}
 use Rattle.stream.specs.Target.{targetQueue}
 use Rattle.stream.specs.Queueing.{shut, Placed}

@@ -8,7 +8,8 @@ use lib.ListN.{drop, length, length-drop, length-take}
 use Rattle.laws.proofs.Stores.{rest}
 use Rattle.model.specs.Commands.{badEntry}
 use Rattle.frame.specs.Frame.{goodEntry}
-use Rattle.frame.proofs.Laws.{passed, refused, bad-here, bad-later}
+use Rattle.laws.proofs.Tests.{passed, refused}
+use Rattle.frame.proofs.Laws.{bad-here, bad-later}
 use Rattle.frame.proofs.all_good.Statement.{statement}
 use Rattle.frame.proofs.all_good.Tie as tie
 

@@ -2,10 +2,10 @@
 use mathlib.Core.Path.{ap, _∙_}
 use Prim.Native.Nat.{ℕ}
 use borrow.Author.Needs.{needs}
-use Rattle.laws.proofs.Tests.{and-fails, and-holds}
+use Rattle.laws.proofs.Tests.{and-fails, and-holds, same-test, other-test, passed, refused}
+use Rattle.model.specs.Numbers.{firstCoded, lastCoded}
 use Rattle.frame.specs.Frame.{goodCreation}
 use Rattle.laws.specs.Tests.{within}
-use Rattle.frame.proofs.Laws.{same-test, other-test, passed, refused}
 use Rattle.frame.proofs.creation_good.Statement.{statement}
 use Rattle.frame.proofs.creation_good.Tie as tie
 
@@ -28,8 +28,8 @@ returns-2 c = let p = c .before .before in
 coded-format-requires : tie.Need-coded-format-requires
 coded-format-requires c κs = search needs
 
-in-range-requires : tie.Need-in-range-requires
-in-range-requires c κs = search needs
+coded-good-requires : tie.Need-coded-good-requires
+coded-good-requires c κs = search needs
 
 returns-3 : tie.Need-returns-3
 unfolding goodCreation
@@ -38,7 +38,7 @@ returns-3 c = let w = c .before in
     let p = o .before .before in
     and-holds _ _ _ (same-test (p .before .payload-u32 .ensures) (p .if1 .left))
     (and-holds _ _ _ (same-test (o .before .payload-u322 .ensures) (o .if2 .left))
-    (and-fails _ _ (refused (w .in-range .ensures ∙ ap (λ (x : ℕ). within x 0x1000 0x1005) (w .before .coded-format .ensures)) (c .if3 .taken))))
+    (and-fails _ _ (refused (w .coded-good .ensures ∙ ap (λ (x : ℕ). within x firstCoded lastCoded) (w .before .coded-format .ensures)) (c .if3 .taken))))
 
 tag-good-requires : tie.Need-tag-good-requires
 tag-good-requires c κs = search needs
@@ -50,7 +50,7 @@ returns-4 c = let w = c .before .before in
     let p = o .before .before in
     and-holds _ _ _ (same-test (p .before .payload-u32 .ensures) (p .if1 .left))
     (and-holds _ _ _ (same-test (o .before .payload-u322 .ensures) (o .if2 .left))
-    (and-holds _ _ _ (passed (w .in-range .ensures ∙ ap (λ (x : ℕ). within x 0x1000 0x1005) (w .before .coded-format .ensures)) (c .before .if3 .left))
+    (and-holds _ _ _ (passed (w .coded-good .ensures ∙ ap (λ (x : ℕ). within x firstCoded lastCoded) (w .before .coded-format .ensures)) (c .before .if3 .left))
     (c .tag-good .ensures)))
 
 pub creation-good-spec : {M : Type 1} → statement M
@@ -62,7 +62,7 @@ creation-good-spec =
     payload-u32-requires-2
     returns-2
     coded-format-requires
-    in-range-requires
+    coded-good-requires
     returns-3
     tag-good-requires
     returns-4)

@@ -4,9 +4,9 @@ use mathlib.Core.Bool.{not}
 use native.Mathlib.Omega.{arith}
 use denote.Ref.{now}
 use borrow.Author.Needs.{needs}
-use Rattle.laws.proofs.Tests.{and-fails}
+use Rattle.laws.proofs.Tests.{and-fails, same-test}
 use Rattle.frame.specs.Frame.{goodEntry}
-use Rattle.frame.proofs.Laws.{same-test, entry-test}
+use Rattle.frame.proofs.Laws.{entry-test}
 use Rattle.frame.proofs.entry_good.Statement.{statement}
 use Rattle.frame.proofs.entry_good.Tie as tie
 

@@ -5,10 +5,9 @@ use native.Mathlib.Omega.{arith}
 use denote.Ref.{now}
 use lib.ListN.{take}
 use borrow.Author.Needs.{needs}
-use Rattle.laws.proofs.Tests.{and-fails, and-holds, within-bounds}
+use Rattle.laws.proofs.Tests.{and-fails, and-holds, within-bounds, passed, refused}
 use Rattle.frame.specs.Frame.{goodEntries, goodResource}
 use Rattle.laws.specs.Tests.{within}
-use Rattle.frame.proofs.Laws.{passed, refused}
 use Rattle.model.specs.Frames.{numEntries}
 use Rattle.laws.specs.Lists.{total}
 use Rattle.frame.proofs.resource_good.Statement.{statement}

@@ -1,10 +1,9 @@
 -- `frame::set_good` meets its contract: a chain of tests.
 use mathlib.Core.Path.{ap, _∙_}
 use borrow.Author.Needs.{needs}
-use Rattle.laws.proofs.Tests.{and-fails, and-holds}
+use Rattle.laws.proofs.Tests.{and-fails, and-holds, same-test, other-test, passed, refused}
 use Rattle.model.specs.Commands.{goodExtent}
 use Rattle.frame.specs.Frame.{goodSet}
-use Rattle.frame.proofs.Laws.{same-test, other-test, passed, refused}
 use Rattle.frame.proofs.set_good.Statement.{statement}
 use Rattle.frame.proofs.set_good.Tie as tie
 

@@ -2,7 +2,7 @@
 use denote.Ref.{now}
 use borrow.Author.Needs.{needs}
 use Rattle.frame.specs.Frame.{goodSizes}
-use Rattle.frame.proofs.Laws.{leb-not-ltb}
+use Rattle.laws.proofs.Tests.{leb-not-ltb}
 use Rattle.model.specs.Frames.{numDataSizes}
 use Rattle.frame.proofs.sizes_good.Statement.{statement}
 use Rattle.frame.proofs.sizes_good.Tie as tie

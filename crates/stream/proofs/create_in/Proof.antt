@@ -7,8 +7,8 @@ use Rattle.model.specs.Answers.{outOfMemory, invalidResource, invalidParameter}
 use Rattle.words.specs.declared.Found.{Found}
 use Rattle.words.specs.Found.{foundAt, Within}
 use Rattle.table.specs.Values.{queueTypeOf}
-use Rattle.frame.proofs.Laws.{passed, refused}
-use Rattle.frame.proofs.Commands.{resource-bad}
+use Rattle.laws.proofs.Tests.{passed, refused}
+use Rattle.frame.proofs.Checks.{resource-bad}
 use Rattle.stream.specs.Replied.{asked}
 use Rattle.stream.proofs.Steps.{queue-words, queue-back, succeeded, failed}
 use Rattle.stream.proofs.Tested.{creating-again, creating-full, creating-new}

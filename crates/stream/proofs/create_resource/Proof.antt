@@ -3,7 +3,7 @@ use denote.Ref.{now}
 use borrow.Author.Needs.{needs}
 use Rattle.model.specs.Frames.{queueType}
 use Rattle.model.specs.Answers.{invalidParameter}
-use Rattle.frame.proofs.Commands.{resource-unnamed}
+use Rattle.frame.proofs.Checks.{resource-unnamed}
 use Rattle.stream.specs.declared.Target.the-variants.{Neither}
 use Rattle.stream.specs.Replied.{asked}
 use Rattle.stream.proofs.Steps.{failed}

@@ -9,8 +9,8 @@ use Rattle.words.specs.declared.Found.{Found}
 use Rattle.words.specs.Found.{foundAt, Within}
 use Rattle.words.specs.Search.{findResource}
 use Rattle.table.specs.Values.{queueTypeOf}
-use Rattle.frame.proofs.Laws.{passed, refused}
-use Rattle.frame.proofs.Commands.{queue-bad}
+use Rattle.laws.proofs.Tests.{passed, refused}
+use Rattle.frame.proofs.Checks.{queue-bad}
 use Rattle.stream.specs.Replied.{asked}
 use Rattle.stream.proofs.Steps.{queue-words, failed}
 use Rattle.stream.proofs.Tested.{named, queueing-shut, queueing-absent}

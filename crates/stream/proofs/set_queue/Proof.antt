@@ -10,8 +10,8 @@ use Rattle.model.specs.Answers.{invalidOperation, invalidParameter}
 use Rattle.model.specs.Commands.{withParameters}
 use Rattle.table.specs.Values.{queueTypeOf}
 use Rattle.frame.specs.Frame.{goodSet}
-use Rattle.frame.proofs.Laws.{passed, refused}
-use Rattle.frame.proofs.Commands.{set-bad}
+use Rattle.laws.proofs.Tests.{passed, refused}
+use Rattle.frame.proofs.Checks.{set-bad}
 use Rattle.stream.specs.Replied.{asked}
 use Rattle.stream.proofs.Steps.{queue-words, queue-back, succeeded, failed}
 use Rattle.stream.proofs.Tested.{setting-busy, setting-idle}

@@ -8,7 +8,7 @@ use Rattle.model.specs.Answers.{outOfMemory, invalidStream, invalidParameter}
 use Rattle.model.specs.Steps.{around}
 use Rattle.table.specs.Blocks.{placeWords}
 use Rattle.table.proofs.Bridge.{vacant-found}
-use Rattle.frame.proofs.Laws.{passed, refused}
+use Rattle.laws.proofs.Tests.{passed, refused}
 use Rattle.steps.proofs.Known.{create-live, create-bad, create-full, create-done}
 use Rattle.steps.proofs.Served.{failed, in-vacant, found-within, was-missing, was-live, was-vacant, was-full}
 use borrow.Author.Needs.{needs}

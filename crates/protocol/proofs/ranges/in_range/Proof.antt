@@ -1,10 +1,9 @@
--- `frame::in_range` meets its contract: each return is a law of `within`.
+-- `protocol::ranges::in_range` meets its contract: each return is a law of `within`.
 use mathlib.Core.Path.{sym}
 use native.Mathlib.Omega.{arith}
-use Rattle.laws.proofs.Tests.{within-below}
-use Rattle.frame.proofs.Laws.{range-test}
-use Rattle.frame.proofs.in_range.Statement.{statement}
-use Rattle.frame.proofs.in_range.Tie as tie
+use Rattle.laws.proofs.Tests.{within-from, within-below}
+use Rattle.protocol.proofs.ranges.in_range.Statement.{statement}
+use Rattle.protocol.proofs.ranges.in_range.Tie as tie
 
 returns : tie.Need-returns
 returns c = let a = c .before .args in
@@ -12,7 +11,7 @@ returns c = let a = c .before .args in
 
 returns-2 : tie.Need-returns-2
 returns-2 c = let a = c .before .args in
-    range-test (a .x) (a .lo) (a .hi) (omega arith)
+    within-from (a .x) (a .lo) (a .hi) (omega arith)
 
 pub in-range-spec : {M : Type 1} → statement M
 in-range-spec = tie.close (tie.spec returns returns-2)

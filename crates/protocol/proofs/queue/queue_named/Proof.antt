@@ -1,9 +1,9 @@
--- `frame::queue_named` meets its contract: by the number in each arm.
+-- `protocol::queue::queue_named` meets its contract: by the number in each arm.
 use native.Mathlib.Omega.{arith}
 use borrow.Author.Tests.{ne-eqb}
 use Rattle.model.specs.Frames.{queueNamed}
-use Rattle.frame.proofs.queue_named.Statement.{statement}
-use Rattle.frame.proofs.queue_named.Tie as tie
+use Rattle.protocol.proofs.queue.queue_named.Statement.{statement}
+use Rattle.protocol.proofs.queue.queue_named.Tie as tie
 
 returns : tie.Need-returns
 unfolding queueNamed

@@ -1,10 +1,9 @@
--- `frame::extent_good` meets its contract: a chain of tests.
+-- `protocol::ranges::extent_good` meets its contract: a chain of tests.
 use mathlib.Core.Path.{refl}
 use borrow.Author.Needs.{needs}
-use Rattle.laws.proofs.Tests.{and-fails, and-holds}
-use Rattle.frame.proofs.Laws.{passed, refused}
-use Rattle.frame.proofs.extent_good.Statement.{statement}
-use Rattle.frame.proofs.extent_good.Tie as tie
+use Rattle.laws.proofs.Tests.{and-fails, and-holds, passed, refused}
+use Rattle.protocol.proofs.ranges.extent_good.Statement.{statement}
+use Rattle.protocol.proofs.ranges.extent_good.Tie as tie
 
 in-range-requires : tie.Need-in-range-requires
 in-range-requires c κs = search needs

@@ -1,0 +1,178 @@
+-- How each check stands in the model's list of tests: those that it makes are one test, behind which the rest is left.
+use mathlib.Core.Path.{_≡_, refl, ap, _∙_, subst}
+use mathlib.Core.Bool.{Bool, true, false, not, _&&_}
+use mathlib.Core.Option.{Option, none, some}
+use Prim.Native.Nat.{ℕ, _+_, _*_, _≤_}
+use native.Mathlib.Omega.{arith}
+use lib.Dec.{ltb, eqb}
+use lib.ListN.{length}
+use borrow.Author.Tests.{eqb-true, ltb-false, not-false}
+use Rattle.laws.specs.Tests.{within}
+use Rattle.laws.proofs.Lists.{decide}
+use Rattle.model.specs.Numbers.{firstCoded, lastCoded}
+use Rattle.model.specs.Device.{QueueType, Stream}
+use Rattle.model.specs.Frames.{QueueCommand, createResource, queueResource, destroyAll, clear, getParameters, setParameters, destroy, drain, control, toQueue, Command, create, live, Length, exactly, atLeast, CommandLine, commands, commandOf, wrongLength, commandType, inMemType, outMemType, codedFormat, planesLayout, numPlanes, entries, entryBytes, numDataSizes, formatSent, frameWidth}
+use Rattle.model.specs.Answers.{ErrorCode, invalidParameter}
+use Rattle.model.specs.Replies.{Reply, Request, fail, Tests, _⇒_then_, first}
+use Rattle.model.specs.Commands.{Surroundings, onCreate, badEntry, onCreateResource, onQueue, formatOf, goodExtent, onSet, onStream, onLine, onCommand}
+use Rattle.model.proofs.Lines.{each-line, by-type}
+use Rattle.frame.specs.Frame.{goodCreation, entrySum, goodEntries, goodResource, goodSizes, goodSet}
+use Rattle.frame.specs.Meant.{Verdict, wrong, right, verdict}
+use Rattle.frame.specs.Rest.{restOfCreate, restOfResource, restOfQueue, restOfSet}
+
+-- Tests in order
+
+-- a test that hits, and one that does not
+pub first-hit : (c : Request) (t : Bool) (e : ErrorCode) (ts : Tests) → t ≡ true → first c (t ⇒ e then ts) ≡ fail c e
+unfolding first
+first-hit c t e ts h = rw h
+
+pub first-miss : (c : Request) (t : Bool) (e : ErrorCode) (ts : Tests) → t ≡ false → first c (t ⇒ e then ts) ≡ first c ts
+unfolding first
+first-miss c t e ts h = rw h
+
+-- two tests for one error, and a test behind two negations
+first-both : (c : Request) (e : ErrorCode) (a b : Bool) (us ts : Tests) → first c us ≡ first c (not b ⇒ e then ts) → first c (not a ⇒ e then us) ≡ first c (not (a && b) ⇒ e then ts)
+unfolding first
+first-both c e true b us ts h = h
+first-both c e false b us ts h = refl
+
+first-twice : (c : Request) (e : ErrorCode) (t : Bool) (ts : Tests) → first c (t ⇒ e then ts) ≡ first c (not (not t) ⇒ e then ts)
+unfolding first
+first-twice c e true ts = refl
+first-twice c e false ts = refl
+
+-- a list of tests that starts with the test of a check
+when-bad : {v : Reply} (c : Request) (good : Bool) (ts : Tests) → v ≡ first c (not good ⇒ invalidParameter then ts) → good ≡ false → v ≡ fail c invalidParameter
+when-bad c good ts e h = e ∙ first-hit c (not good) invalidParameter ts (rw h)
+
+when-good : {v : Reply} (c : Request) (good : Bool) (ts : Tests) → v ≡ first c (not good ⇒ invalidParameter then ts) → good ≡ true → v ≡ first c ts
+when-good c good ts e h = e ∙ first-miss c (not good) invalidParameter ts (rw h)
+
+-- Type and length
+
+-- what a command gives, by its frame's verdict
+abbrev onVerdict : Surroundings → Request → Verdict → Reply
+onVerdict around c (wrong e) = fail c e
+onVerdict around c (right k) = onStream around c k (c .self)
+
+module _ (around : Surroundings) (c : Request) where
+  abbrev told : Verdict
+  told = verdict (commandOf (commandType (c .frame))) (length (c .frame))
+
+  by-line : (o : Option CommandLine) → onLine around c o ≡ onVerdict around c (verdict o (length (c .frame)))
+  by-line none = refl
+  by-line (some l) = decide (wrongLength (l .rule) (length (c .frame))) (λ t. simp t) (λ t. simp t)
+
+  by-verdict : (v : Verdict) → told ≡ v → onCommand around c ≡ onVerdict around c v
+  unfolding onCommand
+  by-verdict v e = by-line (commandOf (commandType (c .frame))) ∙ ap (onVerdict around c) e
+
+  pub wrong-frame : (e : ErrorCode) → told ≡ wrong e → onCommand around c ≡ fail c e
+  wrong-frame e h = by-verdict (wrong e) h
+
+  pub right-frame : (k : Command) → told ≡ right k → onCommand around c ≡ onStream around c k (c .self)
+  right-frame k h = by-verdict (right k) h
+
+-- the bytes that a command's frame has at least
+
+abbrev pub queueLength : QueueCommand → ℕ
+queueLength createResource = 88
+queueLength queueResource = 64
+queueLength destroyAll = 16
+queueLength clear = 16
+queueLength getParameters = 16
+queueLength setParameters = 120
+
+abbrev pub leastLength : Command → ℕ
+leastLength create = 88
+leastLength (live destroy) = 8
+leastLength (live drain) = 8
+leastLength (live control) = 16
+leastLength (live (toQueue k)) = queueLength k
+
+abbrev leastOf : Length → ℕ
+leastOf (exactly n) = n
+leastOf (atLeast n) = n
+
+ruled-length : (rule : Length) (n : ℕ) → wrongLength rule n ≡ false → leastOf rule ≤ n
+ruled-length (exactly k) n h = omega (arith, eqb-true n k (not-false _ h))
+ruled-length (atLeast k) n h = ltb-false n k h
+
+line-length : (n : ℕ) (l : CommandLine) → leastOf (l .rule) ≡ leastLength (l .command) → (k : Command) → verdict (some l) n ≡ right k → leastLength k ≤ n
+line-length n l is k e =
+    decide (wrongLength (l .rule) n)
+    (λ t. absurd (let z : _≡_ {A = ℕ} 0 1 = let w : wrong invalidParameter ≡ right k = simp t at e in cc in omega arith))
+    (λ t. let w : right (l .command) ≡ right k = simp t at e in
+    let same : l .command ≡ k = cc in
+    subst (λ (x : Command). leastLength x ≤ n) same (rw (← is) (ruled-length (l .rule) n t)))
+
+pub right-length : (ty n : ℕ) (k : Command) → verdict (commandOf ty) n ≡ right k → leastLength k ≤ n
+right-length ty n =
+    by-type (λ ty o. (k : Command) → verdict o n ≡ right k → leastLength k ≤ n)
+    (each-line (λ l. leastOf (l .rule) ≡ leastLength (l .command)) (λ l. (k : Command) → verdict (some l) n ≡ right k → leastLength k ≤ n) (line-length n) commands
+    (refl, (refl, (refl, (refl, (refl, (refl, (refl, (refl, (refl, (refl, (refl, (refl, tt)))))))))))))
+    (λ ty k e. absurd (let z : _≡_ {A = ℕ} 0 1 = cc in omega arith)) ty
+
+-- 0x0101
+module _ (around : Surroundings) (c : Request) where
+  pub creation-tests : onCreate around c ≡ first c (not (goodCreation (c .frame)) ⇒ invalidParameter then restOfCreate around c)
+  unfolding onCreate goodCreation
+  creation-tests =
+      let f = c .frame in
+      let e = invalidParameter in
+      let rest = restOfCreate around c in
+      first-both c e (eqb (inMemType f) 0) _ _ rest
+      (first-both c e (eqb (outMemType f) 0) _ _ rest
+      (first-both c e (within (codedFormat f) firstCoded lastCoded) _ _ rest refl))
+
+  pub creation-bad : goodCreation (c .frame) ≡ false → onCreate around c ≡ fail c invalidParameter
+  creation-bad h = when-bad c (goodCreation (c .frame)) (restOfCreate around c) creation-tests h
+
+  pub creation-good : goodCreation (c .frame) ≡ true → onCreate around c ≡ first c (restOfCreate around c)
+  creation-good h = when-good c (goodCreation (c .frame)) (restOfCreate around c) creation-tests h
+
+-- 0x0104 to 0x0109, to the queue q of a stream b
+module _ (c : Request) (b : Stream) (q : QueueType) where
+  pub resource-tests : onCreateResource c b q ≡ first c (not (goodResource (c .frame)) ⇒ invalidParameter then restOfResource c b q)
+  unfolding onCreateResource goodResource goodEntries
+  resource-tests =
+      let f = c .frame in
+      let e = invalidParameter in
+      let rest = restOfResource c b q in
+      first-both c e (within (planesLayout f) 1 2) _ _ rest
+      (first-both c e (within (numPlanes f) 1 8) _ _ rest
+      (first-both c e (within (entrySum f) 1 256) _ _ rest
+      (first-both c e (eqb (length f) (88 + entryBytes * entrySum f)) _ _ rest
+      (first-twice c e (badEntry (entrySum f) (entries f)) rest))))
+
+  pub resource-bad : goodResource (c .frame) ≡ false → onCreateResource c b q ≡ fail c invalidParameter
+  resource-bad g = when-bad c (goodResource (c .frame)) (restOfResource c b q) resource-tests g
+
+  pub resource-good : goodResource (c .frame) ≡ true → onCreateResource c b q ≡ first c (restOfResource c b q)
+  resource-good g = when-good c (goodResource (c .frame)) (restOfResource c b q) resource-tests g
+
+  pub queue-tests : onQueue c b q ≡ first c (not (goodSizes (c .frame)) ⇒ invalidParameter then restOfQueue c b q)
+  unfolding onQueue goodSizes
+  queue-tests = first-twice c invalidParameter (ltb 8 (numDataSizes (c .frame))) (restOfQueue c b q)
+
+  pub queue-bad : goodSizes (c .frame) ≡ false → onQueue c b q ≡ fail c invalidParameter
+  queue-bad g = when-bad c (goodSizes (c .frame)) (restOfQueue c b q) queue-tests g
+
+  pub queue-good : goodSizes (c .frame) ≡ true → onQueue c b q ≡ first c (restOfQueue c b q)
+  queue-good g = when-good c (goodSizes (c .frame)) (restOfQueue c b q) queue-tests g
+
+  pub set-tests : onSet c b q ≡ first c (not (goodSet (formatOf q b) (c .frame)) ⇒ invalidParameter then restOfSet c b q)
+  unfolding onSet goodSet
+  set-tests =
+      let f = c .frame in
+      let e = invalidParameter in
+      let rest = restOfSet c b q in
+      first-both c e (eqb (formatSent f) (formatOf q b)) _ _ rest
+      (first-both c e (goodExtent (frameWidth f)) _ _ rest refl)
+
+  pub set-bad : goodSet (formatOf q b) (c .frame) ≡ false → onSet c b q ≡ fail c invalidParameter
+  set-bad g = when-bad c (goodSet (formatOf q b) (c .frame)) (restOfSet c b q) set-tests g
+
+  pub set-good : goodSet (formatOf q b) (c .frame) ≡ true → onSet c b q ≡ first c (restOfSet c b q)
+  set-good g = when-good c (goodSet (formatOf q b) (c .frame)) (restOfSet c b q) set-tests g

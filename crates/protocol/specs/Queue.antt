@@ -1,0 +1,18 @@
+-- What the queue types of the code stand for.
+use mathlib.Core.Option.{Option, none, some}
+use Rattle.model.specs.Device.{input, output}
+use Rattle.model.specs.Device.{QueueType as Meant}
+use Rattle.protocol.specs.declared.queue.QueueType.{QueueType}
+use Rattle.protocol.specs.declared.queue.QueueType.the-variants.{Input, Output}
+use Rattle.protocol.specs.declared.queue.Named.{Named}
+use Rattle.protocol.specs.declared.queue.Named.the-variants.{One, Neither}
+
+-- the model's queue type
+abbrev pub queueTypeOf : QueueType → Meant
+queueTypeOf Input = input
+queueTypeOf Output = output
+
+-- the queue of type 0x100 or 0x101
+abbrev pub queueMeant : Named → Option Meant
+queueMeant (One q) = some (queueTypeOf q)
+queueMeant Neither = none
