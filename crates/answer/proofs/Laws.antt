@@ -11,10 +11,11 @@ use Rattle.laws.proofs.Stores.{sets-next, sets-four}
 use Rattle.field.specs.Field.{littleEndian}
 use Rattle.field.proofs.Laws.{length-littleEndian}
 use Rattle.model.specs.Device.{QueueType, input, output, Queue, Stream, queueOf}
+use Rattle.model.specs.Frames.{queueNumber}
 use Rattle.model.specs.Answers.{code, Response, success, bufferDone, drainDone, parameters, failure, words, responseBytes, bytesOf}
 use Rattle.model.specs.Commands.{planes, parameterWords}
-use Rattle.model.proofs.ReadBack.{length-words}
-use Rattle.answer.specs.Answer.{answerTo, plainBytes, plainCode, pairs, SidesOf, NumbersOf}
+use Rattle.model.proofs.ReadBack.{length-words, length-parameters}
+use Rattle.answer.specs.Answer.{answerTo, plainBytes, plainCode, pairs, NumbersOf}
 
 -- words after words are words
 pub words-append : (xs ys : List ℕ) → words (xs ++ ys) ≡ words xs ++ words ys
@@ -78,15 +79,14 @@ sets-buffer d at ticket stream ts flags q x y z w =
 -- Answers to a get
 
 -- the planes of an input queue and of an output queue
-pub input-planes : {q : Queue} {queue width height : ℕ} (t : QueueType) → SidesOf t q queue width height → queue ≡ 0x100 → 1 ∷ pairs 262144 0 0 0 ≡ planes t q
+pub input-planes : {t : QueueType} (q : Queue) → t ≡ input → 1 ∷ pairs 262144 0 0 0 ≡ planes t q
 unfolding pairs
-input-planes input s e = refl
-input-planes output s e = absurd (omega arith)
+input-planes q e = rw e
 
-pub output-planes : {q : Queue} {queue width height : ℕ} (t : QueueType) → SidesOf t q queue width height → (queue ≡ 0x100 → ⊥) → 2 ∷ pairs (width * height) width (width * height / 2) width ≡ planes t q
+pub output-planes : {t : QueueType} {width height : ℕ} (q : Queue) → t ≡ output → width ≡ q .width → height ≡ q .height
+    → 2 ∷ pairs (width * height) width (width * height / 2) width ≡ planes t q
 unfolding pairs
-output-planes input s e = absurd (e (s .isQueue))
-output-planes output s e = rw (s .isWidth, s .isHeight)
+output-planes q e w h = rw (e, w, h)
 
 -- 28 words in either queue, 120 bytes with the answer's type and the stream number
 words-answer : (ticket stream : ℕ) (ws : List ℕ) → length ws ≡ 28 → words (ticket ∷ 120 ∷ 0x0203 ∷ stream ∷ ws) ≡ bytesOf (answerTo ticket stream (parameters ws) ∷ [])
@@ -95,17 +95,12 @@ words-answer ticket stream ws h =
     let n : length (words (0x0203 ∷ stream ∷ ws)) ≡ 120 = length-words (0x0203 ∷ stream ∷ ws) ∙ (omega arith) in
     rw (append-nil, n)
 
-count : (q : QueueType) (b : Stream) → length (parameterWords q b) ≡ 28
-unfolding parameterWords
-count input b = refl
-count output b = refl
-
-pub parameters-answer : {queue format width height rate : ℕ} (ticket stream : ℕ) (q : QueueType) (b : Stream) → NumbersOf q b queue format width height rate
+pub parameters-answer : {queue format width height rate : ℕ} (ticket stream : ℕ) (q : QueueType) (b : Stream) → queue ≡ queueNumber q → NumbersOf q b format width height rate
     → words (ticket ∷ 120 ∷ 0x0203 ∷ stream ∷ queue ∷ format ∷ width ∷ height ∷ 1 ∷ 16 ∷ 0 ∷ 0 ∷ width ∷ height ∷ rate ∷ planes q (queueOf q b)) ≡ bytesOf (answerTo ticket stream (parameters (parameterWords q b)) ∷ [])
 unfolding parameterWords
-parameters-answer ticket stream q b s =
-    rw (s .sides .isQueue, s .isFormat, s .sides .isWidth, s .sides .isHeight, s .isRate) (words-answer ticket stream (parameterWords q b) (count q b))
+parameters-answer ticket stream q b e s =
+    rw (e, s .isFormat, s .isWidth, s .isHeight, s .isRate) (words-answer ticket stream (parameterWords q b) (length-parameters q b))
 
 pub parameters-length : (ticket stream : ℕ) (q : QueueType) (b : Stream) → length (bytesOf (answerTo ticket stream (parameters (parameterWords q b)) ∷ [])) ≡ 128
 parameters-length ticket stream q b =
-    rw (← (words-answer ticket stream (parameterWords q b) (count q b))) (length-words (ticket ∷ 120 ∷ 0x0203 ∷ stream ∷ parameterWords q b) ∙ (omega (arith, count q b)))
+    rw (← (words-answer ticket stream (parameterWords q b) (length-parameters q b))) (length-words (ticket ∷ 120 ∷ 0x0203 ∷ stream ∷ parameterWords q b) ∙ (omega (arith, length-parameters q b)))

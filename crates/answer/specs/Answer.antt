@@ -4,8 +4,7 @@ use mathlib.Core.Option.{Option, none, some}
 use mathlib.Core.List.{List, [], _∷_}
 use Prim.Native.Nat.{ℕ}
 use lib.ListN.{replicate}
-use Rattle.model.specs.Device.{QueueType, Queue, Stream, queueOf}
-use Rattle.model.specs.Frames.{queueNumber}
+use Rattle.model.specs.Device.{QueueType, Stream, queueOf}
 use Rattle.model.specs.Answers.{code, Response, success, bufferDone, drainDone, parameters, failure, Answer, words}
 use Rattle.model.specs.Commands.{formatOf}
 
@@ -29,14 +28,9 @@ plainCode (failure e) = some (code e)
 unfoldable pub pairs : ℕ → ℕ → ℕ → ℕ → List ℕ
 pairs size0 stride0 size1 stride1 = size0 ∷ stride0 ∷ size1 ∷ stride1 ∷ replicate 12 0
 
--- the numbers are those of the queue q of type t
-pub record SidesOf (t : QueueType) (q : Queue) (queue width height : ℕ) : Type 0 where
-  pub isQueue : queue ≡ queueNumber t
-  pub isWidth : width ≡ q .width
-  pub isHeight : height ≡ q .height
-
 -- the numbers are those of the queue of type t of the stream b
-pub record NumbersOf (t : QueueType) (b : Stream) (queue format width height rate : ℕ) : Type 0 where
-  pub sides : SidesOf t (queueOf t b) queue width height
+pub record NumbersOf (t : QueueType) (b : Stream) (format width height rate : ℕ) : Type 0 where
   pub isFormat : format ≡ formatOf t b
+  pub isWidth : width ≡ queueOf t b .width
+  pub isHeight : height ≡ queueOf t b .height
   pub isRate : rate ≡ queueOf t b .rate

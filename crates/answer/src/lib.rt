@@ -5,33 +5,15 @@ ghost use Prim.Native.Nat.{_+_, _≤_};
 ghost use lib.ListN.{length};
 ghost use lib.Seq.{sets};
 ghost use Rattle.laws.specs.Stores.{Wrote};
-ghost use Rattle.model.specs.Device.{QueueType, Queue, Stream};
+ghost use Rattle.model.specs.Device.{Queue, Stream};
+ghost use Rattle.model.specs.Device.{QueueType as Meant};
 ghost use Rattle.model.specs.Answers.{bufferDone, parameters, words, bytesOf};
 ghost use Rattle.model.specs.Commands.{planes, parameterWords};
-ghost use Rattle.answer.specs.Answer.{answerTo, plainBytes, pairs, SidesOf, NumbersOf};
-
-// The type of a plain success, also of a buffer's answer, and of the answer to a get.
-pub const OK: u32 = 0x0200;
-
-const PARAMETERS: u32 = 0x0203;
-
-// The codes of the errors.
-pub const INVALID_OPERATION: u32 = 0x0300;
-
-pub const OUT_OF_MEMORY: u32 = 0x0301;
-
-pub const INVALID_STREAM: u32 = 0x0302;
-
-pub const INVALID_RESOURCE: u32 = 0x0303;
-
-pub const INVALID_PARAMETER: u32 = 0x0304;
-
-pub const UNSUPPORTED_CONTROL: u32 = 0x0305;
-
-// The queue types. A writer takes every number but the input queue's for the output queue's.
-pub const INPUT: u32 = 0x0100;
-
-pub const OUTPUT: u32 = 0x0101;
+ghost use Rattle.protocol.specs.Queue.{queueTypeOf};
+ghost use Rattle.answer.specs.Answer.{answerTo, plainBytes, pairs, NumbersOf};
+use protocol::OK;
+use protocol::PARAMETERS;
+use protocol::QueueType;
 
 // The buffers that a queue holds at least and at most.
 const MINIMUM: u32 = 1;
@@ -60,7 +42,7 @@ pub fn put_buffer(
     flags: u32,
 ) -> usize
     requires { ⌜ at + 32 ≤ length (now out) ⌝ }
-    ensures { λ r. ⌜ ((q : QueueType) → Wrote (now (out .entry)) (now (out .exit)) at r (bytesOf (answerTo ticket stream (bufferDone q timestamp flags) ∷ []))) ⌝ }
+    ensures { λ r. ⌜ ((q : Meant) → Wrote (now (out .entry)) (now (out .exit)) at r (bytesOf (answerTo ticket stream (bufferDone q timestamp flags) ∷ []))) ⌝ }
 {
     put_words(out, at, ticket, 24, OK, stream);
     field::put_u64(out, at + 16, timestamp);
@@ -69,13 +51,13 @@ pub fn put_buffer(
     at + 32
 }
 
-// Writes the answer to a get, 128 bytes, from a queue's number and what is kept of its parameters.
+// Writes the answer to a get, 128 bytes, from what is kept of a queue's parameters.
 pub fn put_parameters(
     out: &mut [u8],
     at: usize,
     ticket: u32,
     stream: u32,
-    queue: u32,
+    q: QueueType,
     format: u32,
     width: u32,
     height: u32,
@@ -83,28 +65,29 @@ pub fn put_parameters(
 ) -> usize
     requires { ⌜ (at + 128 ≤ length (now out)) × (width ≤ 4096) × (height ≤ 4096) ⌝ }
     ensures next { λ r. ⌜ r ≡ at + 128 ⌝ }
-    ensures whole { λ r. ⌜ ((q : QueueType) (b : Stream) → NumbersOf q b queue format width height rate → Wrote (now (out .entry)) (now (out .exit)) at r (bytesOf (answerTo ticket stream (parameters (parameterWords q b)) ∷ []))) ⌝ }
+    ensures whole { λ r. ⌜ ((b : Stream) → NumbersOf (queueTypeOf q) b format width height rate → Wrote (now (out .entry)) (now (out .exit)) at r (bytesOf (answerTo ticket stream (parameters (parameterWords (queueTypeOf q) b)) ∷ []))) ⌝ }
 {
+    let queue = protocol::queue_number(q);
     put_words(out, at, ticket, 120, PARAMETERS, stream);
     put_words(out, at + 16, queue, format, width, height);
     put_words(out, at + 32, MINIMUM, MAXIMUM, 0, 0);
-    put_planes(out, at + 48, queue, width, height, rate);
+    put_planes(out, at + 48, q, width, height, rate);
     at + 128
 }
 
 // Stores the end of a queue's parameters, 80 bytes: width and height of the crop, rate, plane count, 8 pairs of size and stride.
-fn put_planes(out: &mut [u8], at: usize, queue: u32, width: u32, height: u32, rate: u32)
+fn put_planes(out: &mut [u8], at: usize, q: QueueType, width: u32, height: u32, rate: u32)
     requires { ⌜ (at + 80 ≤ length (now out)) × (width ≤ 4096) × (height ≤ 4096) ⌝ }
-    ensures { λ _. ⌜ ((t : QueueType) (q : Queue) → SidesOf t q queue width height → now (out .exit) ≡ sets (now (out .entry)) at (words (width ∷ height ∷ rate ∷ planes t q))) ⌝ }
+    ensures { λ _. ⌜ ((Q : Queue) → width ≡ Q .width → height ≡ Q .height → now (out .exit) ≡ sets (now (out .entry)) at (words (width ∷ height ∷ rate ∷ planes (queueTypeOf q) Q))) ⌝ }
 {
-    if queue == INPUT {
-        put_words(out, at, width, height, rate, 1);
-        put_pairs(out, at + 16, INPUT_SIZE, 0, 0, 0);
+    let QueueType::Input = q else {
+        let size = width * height;
+        put_words(out, at, width, height, rate, 2);
+        put_pairs(out, at + 16, size, width, size / 2, width);
         return;
-    }
-    let size = width * height;
-    put_words(out, at, width, height, rate, 2);
-    put_pairs(out, at + 16, size, width, size / 2, width);
+    };
+    put_words(out, at, width, height, rate, 1);
+    put_pairs(out, at + 16, INPUT_SIZE, 0, 0, 0);
 }
 
 // Stores 8 pairs of size and stride, 64 bytes, of which the last six are 0.

@@ -8,7 +8,7 @@ ghost use Rattle.model.specs.Device.{Queue, Stream, Buffer, queueOf, queuedIn, 
 ghost use Rattle.model.specs.Reports.{timestampOf, badEos, finishBuffer, onFinish, onDrained};
 ghost use Rattle.words.specs.Words.{queueWords};
 ghost use Rattle.words.specs.Search.{slotAt, isQueued, timestampIn, findResource};
-ghost use Rattle.table.specs.Values.{queueTypeOf};
+ghost use Rattle.protocol.specs.Queue.{queueTypeOf};
 ghost use Rattle.stream.specs.Replied.{Holds};
 ghost use Rattle.pending.specs.Done.{Done};
 use crate::Outcome;

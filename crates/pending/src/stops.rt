@@ -15,7 +15,7 @@ ghost use Rattle.words.specs.Words.{queueWords};
 ghost use Rattle.words.specs.Search.{slotAt, ticketIn, timestampIn};
 ghost use Rattle.words.specs.Changes.{unmarked};
 ghost use Rattle.table.specs.Blocks.{placeWords};
-ghost use Rattle.table.specs.Values.{queueTypeOf};
+ghost use Rattle.protocol.specs.Queue.{queueTypeOf};
 ghost use Rattle.stream.specs.Replied.{Holds, asked, Replied};
 ghost use Rattle.pending.specs.Done.{clearAnswers, destroyAnswers, clearLeaves};
 use answer::INVALID_PARAMETER;

@@ -7,7 +7,7 @@ use Prim.Native.Nat.{ℕ}
 use lib.ListN.{set}
 use Rattle.laws.specs.Lists.{isEmpty, isNone}
 use Rattle.model.specs.Device.{QueueType, created, queued, Slot, resource, Stream, queueOf, withQueue, withDrain, withSlots, queuedIn, bufferOf, present, noSlot, addResource, setState, freeAll}
-use Rattle.model.specs.Frames.{queueNamed, queueType, resourceId, timestampSent, frameWidth, frameHeight, frameRate}
+use Rattle.model.specs.Frames.{resourceId, timestampSent, frameWidth, frameHeight, frameRate}
 use Rattle.model.specs.Answers.{ErrorCode, invalidOperation, outOfMemory, invalidResource, success, parameters}
 use Rattle.model.specs.Replies.{Reply, reply, Request, own, fail, Tests, accept, _⇒_then_, first}
 use Rattle.model.specs.Commands.{onDrain, onCreateResource, onQueue, onDestroyAll, parameterWords, onGet, withParameters, formatOf, onSet}
@@ -16,13 +16,7 @@ use Rattle.words.specs.Search.{slotAt, isQueued, numberIn, findResource, findFr
 use Rattle.words.proofs.Bridge.{find-present, find-absent, find-number, find-set, find-queued, free-room, free-add, free-none}
 use Rattle.frame.specs.Frame.{goodResource, goodSizes, goodSet}
 use Rattle.frame.proofs.Checks.{first-hit, first-miss, resource-good, queue-good, set-good}
-use Rattle.stream.specs.declared.Target.{Target}
-use Rattle.stream.specs.Target.{targetQueue}
 use Rattle.stream.specs.Queueing.{shut, Placed}
-
--- the queue that the queue type n, read as k, was found to name
-pub named : {r : Target} {k : ℕ} (n : ℕ) (s : Target) → targetQueue r ≡ queueNamed k → k ≡ n → r ≡ s → queueNamed n ≡ targetQueue s
-named n s e is found = ap queueNamed (sym is) ∙ sym e ∙ ap targetQueue found
 
 -- the end of the tests, and two tests for one error
 first-accept : (c : Request) (v : Reply) → first c (accept v) ≡ v
@@ -44,26 +38,26 @@ module _ (c : Request) (b : Stream) where
   unfolding onDrain first
   drain-new e = rw (sym e)
 
-  module _ (q : QueueType) (h : queueNamed (queueType (c .frame)) ≡ some q) where
+  module _ (q : QueueType) where
     -- 0x0104, behind a good frame with the resource r
     module _ (g : goodResource (c .frame) ≡ true) (r : ℕ) (is : r ≡ resourceId (c .frame)) where
-      pub creating-again : true ≡ present r (queueOf q b .slots) → onCreateResource c b ≡ fail c invalidResource
+      pub creating-again : true ≡ present r (queueOf q b .slots) → onCreateResource c b q ≡ fail c invalidResource
       creating-again e =
           let s = queueOf q b .slots in
-          resource-good c b q h g ∙ first-hit c (present (resourceId (c .frame)) s) invalidResource _ (sym (e ∙ ap (λ (n : ℕ). present n s) is))
+          resource-good c b q g ∙ first-hit c (present (resourceId (c .frame)) s) invalidResource _ (sym (e ∙ ap (λ (n : ℕ). present n s) is))
 
       -- with a number that is not there
       module _ (e : false ≡ present r (queueOf q b .slots)) where
-        behind : onCreateResource c b ≡ first c (noSlot (queueOf q b .slots) ⇒ outOfMemory then accept (reply (own c success ∷ []) (some (withQueue q (withSlots (addResource (resourceId (c .frame)) (queueOf q b .slots)) (queueOf q b)) b))))
+        behind : onCreateResource c b q ≡ first c (noSlot (queueOf q b .slots) ⇒ outOfMemory then accept (reply (own c success ∷ []) (some (withQueue q (withSlots (addResource (resourceId (c .frame)) (queueOf q b .slots)) (queueOf q b)) b))))
         behind =
             let s = queueOf q b .slots in
-            resource-good c b q h g ∙ first-miss c (present (resourceId (c .frame)) s) invalidResource _ (sym (e ∙ ap (λ (n : ℕ). present n s) is))
+            resource-good c b q g ∙ first-miss c (present (resourceId (c .frame)) s) invalidResource _ (sym (e ∙ ap (λ (n : ℕ). present n s) is))
 
-        pub creating-full : none ≡ findFree (queueOf q b .slots) → onCreateResource c b ≡ fail c outOfMemory
+        pub creating-full : none ≡ findFree (queueOf q b .slots) → onCreateResource c b q ≡ fail c outOfMemory
         creating-full f = behind ∙ first-hit c (noSlot (queueOf q b .slots)) outOfMemory _ (free-none (queueOf q b .slots) (sym f))
 
         pub creating-new : (k : ℕ) → some k ≡ findFree (queueOf q b .slots)
-            → onCreateResource c b ≡ reply (own c success ∷ []) (some (withQueue q (withSlots (set (queueOf q b .slots) k (resource r created)) (queueOf q b)) b))
+            → onCreateResource c b q ≡ reply (own c success ∷ []) (some (withQueue q (withSlots (set (queueOf q b .slots) k (resource r created)) (queueOf q b)) b))
         creating-new k f =
             let s = queueOf q b .slots in
             behind
@@ -74,16 +68,16 @@ module _ (c : Request) (b : Stream) where
 
     -- 0x0105, behind a good frame
     module _ (g : goodSizes (c .frame) ≡ true) where
-      tests : onQueue c b ≡ first c (shut q b ⇒ invalidOperation then
+      tests : onQueue c b q ≡ first c (shut q b ⇒ invalidOperation then
           not (present (resourceId (c .frame)) (queueOf q b .slots)) ⇒ invalidResource then
           not (isNone (bufferOf (resourceId (c .frame)) (queuedIn (queueOf q b .slots)))) ⇒ invalidOperation then
           accept (reply [] (some (withQueue q (withSlots (setState (resourceId (c .frame)) (queued (c .ticket) (timestampSent (c .frame))) (queueOf q b .slots)) (queueOf q b)) b))))
-      tests = queue-good c b q h g ∙ first-either c _ (queueOf q b .clearing) invalidOperation _
+      tests = queue-good c b q g ∙ first-either c _ (queueOf q b .clearing) invalidOperation _
 
-      pub queueing-shut : true ≡ shut q b → onQueue c b ≡ fail c invalidOperation
+      pub queueing-shut : true ≡ shut q b → onQueue c b q ≡ fail c invalidOperation
       queueing-shut e = tests ∙ first-hit c (shut q b) invalidOperation _ (sym e)
 
-      pub queueing-absent : false ≡ shut q b → none ≡ findResource (resourceId (c .frame)) (queueOf q b .slots) → onQueue c b ≡ fail c invalidResource
+      pub queueing-absent : false ≡ shut q b → none ≡ findResource (resourceId (c .frame)) (queueOf q b .slots) → onQueue c b q ≡ fail c invalidResource
       queueing-absent e f =
           let s = queueOf q b .slots in
           tests
@@ -91,48 +85,48 @@ module _ (c : Request) (b : Stream) where
           ∙ first-hit c (not (present (resourceId (c .frame)) s)) invalidResource _ (ap not (find-absent (resourceId (c .frame)) s (sym f)))
 
     -- 0x0106
-    pub freeing-busy : true ≡ not (isEmpty (queuedIn (queueOf q b .slots))) → onDestroyAll c b ≡ fail c invalidOperation
+    pub freeing-busy : true ≡ not (isEmpty (queuedIn (queueOf q b .slots))) → onDestroyAll c b q ≡ fail c invalidOperation
     unfolding onDestroyAll first
-    freeing-busy e = rw (h, sym e)
+    freeing-busy e = rw (sym e)
 
     pub freeing-idle : false ≡ not (isEmpty (queuedIn (queueOf q b .slots)))
-        → onDestroyAll c b ≡ reply (own c success ∷ []) (some (withQueue q (withSlots (freeAll (queueOf q b .slots)) (queueOf q b)) b))
+        → onDestroyAll c b q ≡ reply (own c success ∷ []) (some (withQueue q (withSlots (freeAll (queueOf q b .slots)) (queueOf q b)) b))
     unfolding onDestroyAll first
-    freeing-idle e = rw (h, sym e)
+    freeing-idle e = rw (sym e)
 
     -- 0x0108
-    pub getting : onGet c b ≡ reply (own c (parameters (parameterWords q b)) ∷ []) (c .self)
-    unfolding onGet first
-    getting = rw h
+    pub getting : onGet c b q ≡ reply (own c (parameters (parameterWords q b)) ∷ []) (c .self)
+    unfolding onGet
+    getting = refl
 
     -- 0x0109, behind a good frame
     module _ (g : goodSet (formatOf q b) (c .frame) ≡ true) where
-      pub setting-busy : true ≡ not (isEmpty (queuedIn (queueOf q b .slots))) → onSet c b ≡ fail c invalidOperation
-      setting-busy e = set-good c b q h g ∙ first-hit c (not (isEmpty (queuedIn (queueOf q b .slots)))) invalidOperation _ (sym e)
+      pub setting-busy : true ≡ not (isEmpty (queuedIn (queueOf q b .slots))) → onSet c b q ≡ fail c invalidOperation
+      setting-busy e = set-good c b q g ∙ first-hit c (not (isEmpty (queuedIn (queueOf q b .slots)))) invalidOperation _ (sym e)
 
       pub setting-idle : false ≡ not (isEmpty (queuedIn (queueOf q b .slots)))
-          → onSet c b ≡ reply (own c success ∷ []) (some (withQueue q (withParameters (frameWidth (c .frame)) (frameHeight (c .frame)) (frameRate (c .frame)) (queueOf q b)) b))
-      setting-idle e = set-good c b q h g ∙ first-miss c (not (isEmpty (queuedIn (queueOf q b .slots)))) invalidOperation _ (sym e) ∙ first-accept c _
+          → onSet c b q ≡ reply (own c success ∷ []) (some (withQueue q (withParameters (frameWidth (c .frame)) (frameHeight (c .frame)) (frameRate (c .frame)) (queueOf q b)) b))
+      setting-idle e = set-good c b q g ∙ first-miss c (not (isEmpty (queuedIn (queueOf q b .slots)))) invalidOperation _ (sym e) ∙ first-accept c _
 
   -- 0x0105 on the slot k
   module _ (q : QueueType) (k : ℕ) (p : Placed (c .frame) b q k) (d : Distinct (queueOf q b .slots)) where
-    last : onQueue c b ≡ first c (not (isNone (bufferOf (resourceId (c .frame)) (queuedIn (queueOf q b .slots)))) ⇒ invalidOperation then
+    last : onQueue c b q ≡ first c (not (isNone (bufferOf (resourceId (c .frame)) (queuedIn (queueOf q b .slots)))) ⇒ invalidOperation then
         accept (reply [] (some (withQueue q (withSlots (setState (resourceId (c .frame)) (queued (c .ticket) (timestampSent (c .frame))) (queueOf q b .slots)) (queueOf q b)) b))))
     last =
         let s = queueOf q b .slots in
         let r = resourceId (c .frame) in
-        tests q (p .named) (p .sizes)
+        tests q (p .sizes)
         ∙ first-miss c (shut q b) invalidOperation _ (p .takes)
         ∙ first-miss c (not (present r s)) invalidResource _ (ap not (find-present r k s (p .found)))
 
-    pub queueing-again : true ≡ isQueued (slotAt k (queueOf q b .slots)) → onQueue c b ≡ fail c invalidOperation
+    pub queueing-again : true ≡ isQueued (slotAt k (queueOf q b .slots)) → onQueue c b q ≡ fail c invalidOperation
     queueing-again e =
         let s = queueOf q b .slots in
         let r = resourceId (c .frame) in
         last ∙ first-hit c (not (isNone (bufferOf r (queuedIn s)))) invalidOperation _ (ap not (find-queued r k s (p .found) d ∙ ap not (sym e)))
 
     pub queueing-new : false ≡ isQueued (slotAt k (queueOf q b .slots)) → (ts : ℕ) → ts ≡ timestampSent (c .frame)
-        → onQueue c b ≡ reply [] (some (withQueue q (withSlots (set (queueOf q b .slots) k (resource (numberIn (slotAt k (queueOf q b .slots))) (queued (c .ticket) ts))) (queueOf q b)) b))
+        → onQueue c b q ≡ reply [] (some (withQueue q (withSlots (set (queueOf q b .slots) k (resource (numberIn (slotAt k (queueOf q b .slots))) (queued (c .ticket) ts))) (queueOf q b)) b))
     queueing-new e ts is =
         let s = queueOf q b .slots in
         let r = resourceId (c .frame) in

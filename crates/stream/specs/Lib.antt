@@ -1,3 +1,2 @@
 pub mod Replied
-pub mod Target
 pub mod Queueing

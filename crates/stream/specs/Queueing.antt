@@ -6,7 +6,7 @@ use mathlib.Core.Option.{some}
 use mathlib.Core.List.{List}
 use Rattle.laws.specs.Lists.{isNone}
 use Rattle.model.specs.Device.{QueueType, Stream, queueOf}
-use Rattle.model.specs.Frames.{queueNamed, queueType, resourceId}
+use Rattle.model.specs.Frames.{resourceId}
 use Rattle.model.specs.Commands.{isInput}
 use Rattle.words.specs.Search.{findResource}
 use Rattle.frame.specs.Frame.{goodSizes}
@@ -15,9 +15,8 @@ use Rattle.frame.specs.Frame.{goodSizes}
 abbrev pub shut : QueueType → Stream → Bool
 shut q b = (isInput q && not (isNone (b .draining))) || queueOf q b .clearing
 
--- the frame f names the queue q, which takes buffers, and the resource in its slot k
+-- the frame f is for the queue q, which takes buffers, and names the resource in its slot k
 pub record Placed (f : List ℕ) (b : Stream) (q : QueueType) (k : ℕ) : Type 0 where
-  pub named : queueNamed (queueType f) ≡ some q
   pub sizes : goodSizes f ≡ true
   pub takes : shut q b ≡ false
   pub found : findResource (resourceId f) (queueOf q b .slots) ≡ some k

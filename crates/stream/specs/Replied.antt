@@ -17,6 +17,11 @@ pub record Holds (n : ℕ) (words : List ℕ) (b : Stream) : Type 0 where
   pub good : goodStream b ≡ true
   pub held : words ≡ placeWords (occupied n b)
 
+-- the words are those of a live stream n
+pub record Live (n : ℕ) (words : List ℕ) : Type 0 where
+  pub stream : Stream
+  pub holds : Holds n words stream
+
 -- what a command to it is told
 abbrev pub asked : ℕ → ℕ → List ℕ → Stream → Request
 asked n t f b = record { stream = n; ticket = t; frame = f; self = some b }

@@ -1,4 +1,5 @@
-// The commands to a live stream that answer no buffer: each is tested, then its change is made and its answer written from the start of the room.
+// The commands to a live stream that answer no buffer, each with the queue that it names: it is tested, then its change is made and its answer
+// written from the start of the room.
 ghost use mathlib.Core.Path.{_≡_};
 ghost use mathlib.Core.Bool.{not, _&&_};
 ghost use mathlib.Core.Option.{some};
@@ -7,43 +8,28 @@ ghost use Prim.Native.Nat.{ℕ, _<_, _≤_};
 ghost use lib.ListN.{length};
 ghost use Rattle.laws.specs.Lists.{isNone};
 ghost use Rattle.model.specs.Device.{Queue, Stream, occupied, present};
-ghost use Rattle.model.specs.Frames.{queueNumber, queueNamed, queueType, frameWidth, frameHeight, frameRate};
+ghost use Rattle.model.specs.Frames.{frameWidth, frameHeight, frameRate};
 ghost use Rattle.model.specs.Commands.{onDrain, onCreateResource, isInput, onQueue, onDestroyAll, onGet, formatOf, withParameters, onSet};
 ghost use Rattle.words.specs.Words.{queueWords};
 ghost use Rattle.table.specs.Blocks.{placeWords};
-ghost use Rattle.table.specs.Values.{queueTypeOf};
-ghost use Rattle.stream.specs.Replied.{Holds, asked, Replied};
-ghost use Rattle.stream.specs.Target.{targetQueue};
+ghost use Rattle.protocol.specs.Queue.{queueTypeOf};
+ghost use Rattle.stream.specs.Replied.{Holds, Live, asked, Replied};
 ghost use Rattle.stream.specs.Queueing.{shut, Placed};
-use answer::INPUT;
-use answer::INVALID_OPERATION;
-use answer::INVALID_PARAMETER;
-use answer::INVALID_RESOURCE;
-use answer::OK;
-use answer::OUT_OF_MEMORY;
-use answer::OUTPUT;
-use frame::Named;
+use protocol::INVALID_OPERATION;
+use protocol::INVALID_PARAMETER;
+use protocol::INVALID_RESOURCE;
+use protocol::NV12;
+use protocol::OK;
+use protocol::OUT_OF_MEMORY;
+use protocol::QueueType;
 use table::Drain;
-use table::QueueName;
 use words::Found;
 use words::QUEUE_WORDS;
 
-// The format of every output queue.
-const NV12: u32 = 3;
-
-// The highest width or height.
-const MOST_EXTENT: u32 = 4096;
-
-// The queue that a command or a report is for: one of the two, or neither.
-pub enum Target {
-    One(QueueName),
-    Neither,
-}
-
 // 0x0103: a drain is owed from now on, unless one is owed already.
-pub fn drain(block: &mut [u32], stream: u32, ticket: u32, frame: &[u8], room: &mut [u8]) -> usize
-    requires { ⌜ (length (now block) ≡ 512) × (length (now frame) ≡ 8) × (1056 ≤ length (now room)) ⌝ }
-    ensures { λ r. ⌜ ((b : Stream) → Holds stream (now (block .entry)) b → Replied stream (onDrain (asked stream ticket (now (frame .entry)) b) b) (now (block .exit)) (now (room .entry)) (now (room .exit)) r) ⌝ }
+pub fn drain(block: &mut [u32], stream: u32, ticket: u32, room: &mut [u8]) -> usize
+    requires { ⌜ (length (now block) ≡ 512) × (1056 ≤ length (now room)) ⌝ }
+    ensures { λ r. ⌜ ((f : List ℕ) (b : Stream) → Holds stream (now (block .entry)) b → Replied stream (onDrain (asked stream ticket f b) b) (now (block .exit)) (now (room .entry)) (now (room .exit)) r) ⌝ }
 {
     let owed = table::drain_owed(block);
     let Drain::Settled = owed else {
@@ -59,134 +45,11 @@ pub fn create_resource(
     stream: u32,
     ticket: u32,
     frame: &[u8],
+    q: QueueType,
     room: &mut [u8],
 ) -> usize
     requires { ⌜ (length (now block) ≡ 512) × (88 ≤ length (now frame)) × (1056 ≤ length (now room)) ⌝ }
-    ensures { λ r. ⌜ ((b : Stream) → Holds stream (now (block .entry)) b → Replied stream (onCreateResource (asked stream ticket (now (frame .entry)) b) b) (now (block .exit)) (now (room .entry)) (now (room .exit)) r) ⌝ }
-{
-    let target = queue_of(frame::queue_type(frame));
-    let Target::One(q) = target else {
-        return answer::put_plain(room, 0, ticket, INVALID_PARAMETER, stream);
-    };
-    create_in(block, stream, ticket, frame, q, room)
-}
-
-// 0x0105: a resource becomes Queued and keeps the ticket and the timestamp, without an answer now.
-pub fn queue_resource(
-    block: &mut [u32],
-    stream: u32,
-    ticket: u32,
-    frame: &[u8],
-    room: &mut [u8],
-) -> usize
-    requires { ⌜ (length (now block) ≡ 512) × (length (now frame) ≡ 64) × (1056 ≤ length (now room)) ⌝ }
-    ensures { λ r. ⌜ ((b : Stream) → Holds stream (now (block .entry)) b → Replied stream (onQueue (asked stream ticket (now (frame .entry)) b) b) (now (block .exit)) (now (room .entry)) (now (room .exit)) r) ⌝ }
-{
-    let target = queue_of(frame::queue_type(frame));
-    let Target::One(q) = target else {
-        return answer::put_plain(room, 0, ticket, INVALID_PARAMETER, stream);
-    };
-    queue_in(block, stream, ticket, frame, q, room)
-}
-
-// 0x0106: the resources of a queue without Queued buffers are freed.
-pub fn destroy_all(
-    block: &mut [u32],
-    stream: u32,
-    ticket: u32,
-    frame: &[u8],
-    room: &mut [u8],
-) -> usize
-    requires { ⌜ (length (now block) ≡ 512) × (length (now frame) ≡ 16) × (1056 ≤ length (now room)) ⌝ }
-    ensures { λ r. ⌜ ((b : Stream) → Holds stream (now (block .entry)) b → Replied stream (onDestroyAll (asked stream ticket (now (frame .entry)) b) b) (now (block .exit)) (now (room .entry)) (now (room .exit)) r) ⌝ }
-{
-    let target = queue_of(frame::queue_type(frame));
-    let Target::One(q) = target else {
-        return answer::put_plain(room, 0, ticket, INVALID_PARAMETER, stream);
-    };
-    free_queue(block, stream, ticket, q, room)
-}
-
-// 0x0108: the parameters of a queue are answered.
-pub fn get_parameters(
-    block: &mut [u32],
-    stream: u32,
-    ticket: u32,
-    frame: &[u8],
-    room: &mut [u8],
-) -> usize
-    requires { ⌜ (length (now block) ≡ 512) × (length (now frame) ≡ 16) × (1056 ≤ length (now room)) ⌝ }
-    ensures { λ r. ⌜ ((b : Stream) → Holds stream (now (block .entry)) b → Replied stream (onGet (asked stream ticket (now (frame .entry)) b) b) (now (block .exit)) (now (room .entry)) (now (room .exit)) r) ⌝ }
-{
-    let target = queue_of(frame::queue_type(frame));
-    let Target::One(q) = target else {
-        return answer::put_plain(room, 0, ticket, INVALID_PARAMETER, stream);
-    };
-    get_queue(block, stream, ticket, q, room)
-}
-
-// 0x0109: format, width, height and rate of a queue without Queued buffers are kept as sent.
-pub fn set_parameters(
-    block: &mut [u32],
-    stream: u32,
-    ticket: u32,
-    frame: &[u8],
-    room: &mut [u8],
-) -> usize
-    requires { ⌜ (length (now block) ≡ 512) × (length (now frame) ≡ 120) × (1056 ≤ length (now room)) ⌝ }
-    ensures { λ r. ⌜ ((b : Stream) → Holds stream (now (block .entry)) b → Replied stream (onSet (asked stream ticket (now (frame .entry)) b) b) (now (block .exit)) (now (room .entry)) (now (room .exit)) r) ⌝ }
-{
-    let target = queue_of(frame::queue_type(frame));
-    let Target::One(q) = target else {
-        return answer::put_plain(room, 0, ticket, INVALID_PARAMETER, stream);
-    };
-    set_queue(block, stream, ticket, frame, q, room)
-}
-
-// The queue of a queue type.
-pub fn queue_of(kind: u32) -> Target
-    ensures { λ r. ⌜ targetQueue r ≡ queueNamed kind ⌝ }
-{
-    let named = frame::queue_named(kind);
-    match named {
-        Named::Input => Target::One(QueueName::Input),
-        Named::Output => Target::One(QueueName::Output),
-        Named::Neither => Target::Neither,
-    }
-}
-
-// The number of a queue's type.
-fn queue_number(q: QueueName) -> u32
-    ensures { λ r. ⌜ r ≡ queueNumber (queueTypeOf q) ⌝ }
-{
-    match q {
-        QueueName::Input => INPUT,
-        QueueName::Output => OUTPUT,
-    }
-}
-
-// The format of a queue.
-fn queue_format(block: &[u32], q: QueueName) -> u32
-    requires { ⌜ length (now block) ≡ 512 ⌝ }
-    ensures { λ r. ⌜ ((n : ℕ) (b : Stream) → now (block .entry) ≡ placeWords (occupied n b) → r ≡ formatOf (queueTypeOf q) b) ⌝ }
-{
-    match q {
-        QueueName::Input => table::coded_format(block),
-        QueueName::Output => NV12,
-    }
-}
-
-// 0x0104 behind the queue type.
-fn create_in(
-    block: &mut [u32],
-    stream: u32,
-    ticket: u32,
-    frame: &[u8],
-    q: QueueName,
-    room: &mut [u8],
-) -> usize
-    requires { ⌜ (length (now block) ≡ 512) × (88 ≤ length (now frame)) × (1056 ≤ length (now room)) ⌝ }
-    ensures { λ r. ⌜ ((b : Stream) → Holds stream (now (block .entry)) b → queueNamed (queueType (now (frame .entry))) ≡ some (queueTypeOf q) → Replied stream (onCreateResource (asked stream ticket (now (frame .entry)) b) b) (now (block .exit)) (now (room .entry)) (now (room .exit)) r) ⌝ }
+    ensures { λ r. ⌜ ((b : Stream) → Holds stream (now (block .entry)) b → Replied stream (onCreateResource (asked stream ticket (now (frame .entry)) b) b (queueTypeOf q)) (now (block .exit)) (now (room .entry)) (now (room .exit)) r) ⌝ }
 {
     if !frame::resource_good(frame) {
         return answer::put_plain(room, 0, ticket, INVALID_PARAMETER, stream);
@@ -216,17 +79,17 @@ fn number_present(queue: &[u32], number: u32) -> bool
     true
 }
 
-// 0x0105 behind the queue type, up to the resource's slot.
-fn queue_in(
+// 0x0105: a resource becomes Queued and keeps the ticket and the timestamp, without an answer now.
+pub fn queue_resource(
     block: &mut [u32],
     stream: u32,
     ticket: u32,
     frame: &[u8],
-    q: QueueName,
+    q: QueueType,
     room: &mut [u8],
 ) -> usize
-    requires { ⌜ (length (now block) ≡ 512) × (length (now frame) ≡ 64) × (1056 ≤ length (now room)) ⌝ }
-    ensures { λ r. ⌜ ((b : Stream) → Holds stream (now (block .entry)) b → queueNamed (queueType (now (frame .entry))) ≡ some (queueTypeOf q) → Replied stream (onQueue (asked stream ticket (now (frame .entry)) b) b) (now (block .exit)) (now (room .entry)) (now (room .exit)) r) ⌝ }
+    requires { ⌜ (length (now block) ≡ 512) × (64 ≤ length (now frame)) × (1056 ≤ length (now room)) ⌝ }
+    ensures { λ r. ⌜ ((b : Stream) → Holds stream (now (block .entry)) b → Replied stream (onQueue (asked stream ticket (now (frame .entry)) b) b (queueTypeOf q)) (now (block .exit)) (now (room .entry)) (now (room .exit)) r) ⌝ }
 {
     if !frame::sizes_good(frame) {
         return answer::put_plain(room, 0, ticket, INVALID_PARAMETER, stream);
@@ -248,12 +111,12 @@ fn queue_slot(
     stream: u32,
     ticket: u32,
     frame: &[u8],
-    q: QueueName,
+    q: QueueType,
     k: usize,
     room: &mut [u8],
 ) -> usize
-    requires { ⌜ (length (now block) ≡ 512) × (length (now frame) ≡ 64) × (k < 16) × (1056 ≤ length (now room)) ⌝ }
-    ensures { λ r. ⌜ ((b : Stream) → Holds stream (now (block .entry)) b → Placed (now (frame .entry)) b (queueTypeOf q) k → Replied stream (onQueue (asked stream ticket (now (frame .entry)) b) b) (now (block .exit)) (now (room .entry)) (now (room .exit)) r) ⌝ }
+    requires { ⌜ (length (now block) ≡ 512) × (64 ≤ length (now frame)) × (k < 16) × (1056 ≤ length (now room)) ⌝ }
+    ensures { λ r. ⌜ ((b : Stream) → Holds stream (now (block .entry)) b → Placed (now (frame .entry)) b (queueTypeOf q) k → Replied stream (onQueue (asked stream ticket (now (frame .entry)) b) b (queueTypeOf q)) (now (block .exit)) (now (room .entry)) (now (room .exit)) r) ⌝ }
 {
     let at = table::queue_start(q);
     if words::slot_queued(&block[at..at + QUEUE_WORDS], k) {
@@ -265,7 +128,7 @@ fn queue_slot(
 }
 
 // Whether a queue takes no buffer now: an input queue while draining, or a clear in progress.
-fn queue_shut(block: &[u32], q: QueueName) -> bool
+fn queue_shut(block: &[u32], q: QueueType) -> bool
     requires { ⌜ length (now block) ≡ 512 ⌝ }
     ensures { λ r. ⌜ ((n : ℕ) (b : Stream) → Holds n (now (block .entry)) b → r ≡ shut (queueTypeOf q) b) ⌝ }
 {
@@ -277,11 +140,11 @@ fn queue_shut(block: &[u32], q: QueueName) -> bool
 }
 
 // Whether the queue is the input queue of a stream that owes a drain.
-fn input_draining(block: &[u32], q: QueueName) -> bool
+fn input_draining(block: &[u32], q: QueueType) -> bool
     requires { ⌜ length (now block) ≡ 512 ⌝ }
     ensures { λ r. ⌜ ((n : ℕ) (b : Stream) → Holds n (now (block .entry)) b → r ≡ (isInput (queueTypeOf q) && not (isNone (b .draining)))) ⌝ }
 {
-    let QueueName::Input = q else {
+    let QueueType::Input = q else {
         return false;
     };
     let owed = table::drain_owed(block);
@@ -291,10 +154,16 @@ fn input_draining(block: &[u32], q: QueueName) -> bool
     true
 }
 
-// 0x0106 behind the queue type.
-fn free_queue(block: &mut [u32], stream: u32, ticket: u32, q: QueueName, room: &mut [u8]) -> usize
+// 0x0106: the resources of a queue without Queued buffers are freed.
+pub fn destroy_all(
+    block: &mut [u32],
+    stream: u32,
+    ticket: u32,
+    q: QueueType,
+    room: &mut [u8],
+) -> usize
     requires { ⌜ (length (now block) ≡ 512) × (1056 ≤ length (now room)) ⌝ }
-    ensures { λ r. ⌜ ((f : List ℕ) (b : Stream) → Holds stream (now (block .entry)) b → queueNamed (queueType f) ≡ some (queueTypeOf q) → Replied stream (onDestroyAll (asked stream ticket f b) b) (now (block .exit)) (now (room .entry)) (now (room .exit)) r) ⌝ }
+    ensures { λ r. ⌜ ((f : List ℕ) (b : Stream) → Holds stream (now (block .entry)) b → Replied stream (onDestroyAll (asked stream ticket f b) b (queueTypeOf q)) (now (block .exit)) (now (room .entry)) (now (room .exit)) r) ⌝ }
 {
     let at = table::queue_start(q);
     if words::any_queued(&block[at..at + QUEUE_WORDS]) {
@@ -304,47 +173,37 @@ fn free_queue(block: &mut [u32], stream: u32, ticket: u32, q: QueueName, room: &
     answer::put_plain(room, 0, ticket, OK, stream)
 }
 
-// 0x0108 behind the queue type. A width or a height above its limit stands in no live stream's words.
-fn get_queue(block: &[u32], stream: u32, ticket: u32, q: QueueName, room: &mut [u8]) -> usize
-    requires { ⌜ (length (now block) ≡ 512) × (1056 ≤ length (now room)) ⌝ }
-    ensures { λ r. ⌜ ((f : List ℕ) (b : Stream) → Holds stream (now (block .entry)) b → queueNamed (queueType f) ≡ some (queueTypeOf q) → Replied stream (onGet (asked stream ticket f b) b) (now (block .entry)) (now (room .entry)) (now (room .exit)) r) ⌝ }
+// 0x0108: the parameters of a queue are answered.
+pub fn get_parameters(
+    block: &[u32],
+    stream: u32,
+    ticket: u32,
+    q: QueueType,
+    room: &mut [u8],
+) -> usize
+    requires { ⌜ (length (now block) ≡ 512) × Live stream (now block) × (1056 ≤ length (now room)) ⌝ }
+    ensures { λ r. ⌜ ((f : List ℕ) (b : Stream) → Holds stream (now (block .entry)) b → Replied stream (onGet (asked stream ticket f b) b (queueTypeOf q)) (now (block .entry)) (now (room .entry)) (now (room .exit)) r) ⌝ }
 {
     let start = table::queue_start(q);
     let queue = &block[start..start + QUEUE_WORDS];
     let width = words::width(queue);
-    if MOST_EXTENT < width {
-        return 0;
-    }
     let height = words::height(queue);
-    if MOST_EXTENT < height {
-        return 0;
-    }
     let rate = words::rate(queue);
     let format = queue_format(block, q);
-    answer::put_parameters(
-        room,
-        0,
-        ticket,
-        stream,
-        queue_number(q),
-        format,
-        width,
-        height,
-        rate,
-    )
+    answer::put_parameters(room, 0, ticket, stream, q, format, width, height, rate)
 }
 
-// 0x0109 behind the queue type.
-fn set_queue(
+// 0x0109: format, width, height and rate of a queue without Queued buffers are kept as sent.
+pub fn set_parameters(
     block: &mut [u32],
     stream: u32,
     ticket: u32,
     frame: &[u8],
-    q: QueueName,
+    q: QueueType,
     room: &mut [u8],
 ) -> usize
-    requires { ⌜ (length (now block) ≡ 512) × (length (now frame) ≡ 120) × (1056 ≤ length (now room)) ⌝ }
-    ensures { λ r. ⌜ ((b : Stream) → Holds stream (now (block .entry)) b → queueNamed (queueType (now (frame .entry))) ≡ some (queueTypeOf q) → Replied stream (onSet (asked stream ticket (now (frame .entry)) b) b) (now (block .exit)) (now (room .entry)) (now (room .exit)) r) ⌝ }
+    requires { ⌜ (length (now block) ≡ 512) × (120 ≤ length (now frame)) × (1056 ≤ length (now room)) ⌝ }
+    ensures { λ r. ⌜ ((b : Stream) → Holds stream (now (block .entry)) b → Replied stream (onSet (asked stream ticket (now (frame .entry)) b) b (queueTypeOf q)) (now (block .exit)) (now (room .entry)) (now (room .exit)) r) ⌝ }
 {
     if !frame::set_good(frame, queue_format(block, q)) {
         return answer::put_plain(room, 0, ticket, INVALID_PARAMETER, stream);
@@ -359,11 +218,22 @@ fn set_queue(
 
 // A queue keeps the parameters of a set.
 fn keep_parameters(queue: &mut [u32], frame: &[u8])
-    requires { ⌜ (length (now queue) ≡ 84) × (length (now frame) ≡ 120) ⌝ }
+    requires { ⌜ (length (now queue) ≡ 84) × (120 ≤ length (now frame)) ⌝ }
     ensures { λ _. ⌜ ((Q : Queue) → now (queue .entry) ≡ queueWords Q → now (queue .exit) ≡ queueWords (withParameters (frameWidth (now (frame .entry))) (frameHeight (now (frame .entry))) (frameRate (now (frame .entry))) Q)) ⌝ }
 {
     let width = frame::frame_width(frame);
     let height = frame::frame_height(frame);
     let rate = frame::frame_rate(frame);
     words::set_parameters(queue, width, height, rate);
+}
+
+// The format of a queue.
+fn queue_format(block: &[u32], q: QueueType) -> u32
+    requires { ⌜ length (now block) ≡ 512 ⌝ }
+    ensures { λ r. ⌜ ((n : ℕ) (b : Stream) → now (block .entry) ≡ placeWords (occupied n b) → r ≡ formatOf (queueTypeOf q) b) ⌝ }
+{
+    match q {
+        QueueType::Input => table::coded_format(block),
+        QueueType::Output => NV12,
+    }
 }

@@ -2,12 +2,9 @@
 use Prim.Native.Nat.{ℕ}
 use mathlib.Core.Option.{Option, none, some}
 use mathlib.Core.List.{List}
-use Rattle.model.specs.Device.{QueueType, input, output}
 use Rattle.model.specs.Tables.{Freshened}
 use Rattle.table.specs.declared.Drain.{Drain}
 use Rattle.table.specs.declared.Drain.the-variants.{Owed, Settled}
-use Rattle.table.specs.declared.QueueName.{QueueName}
-use Rattle.table.specs.declared.QueueName.the-variants.{Input, Output}
 
 -- the result and the table of making fresh
 abbrev pub freshened : ℕ → List ℕ → Freshened
@@ -17,8 +14,3 @@ freshened r t = record { refusal = r; table = t }
 abbrev pub drainOf : Drain → Option ℕ
 drainOf (Owed t) = some t
 drainOf Settled = none
-
--- the queue type of a queue's name
-abbrev pub queueTypeOf : QueueName → QueueType
-queueTypeOf Input = input
-queueTypeOf Output = output

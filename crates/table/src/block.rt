@@ -7,9 +7,10 @@ ghost use Rattle.laws.specs.Parts.{zeros};
 ghost use Rattle.model.specs.Device.{Stream, vacant, occupied, newQueue, newStream, withDrain};
 ghost use Rattle.words.specs.Words.{queueWords};
 ghost use Rattle.table.specs.Blocks.{queueStart, placeWords};
-ghost use Rattle.table.specs.Values.{drainOf, queueTypeOf};
+ghost use Rattle.protocol.specs.Queue.{queueTypeOf};
+ghost use Rattle.table.specs.Values.{drainOf};
 use crate::Drain;
-use crate::QueueName;
+use protocol::QueueType;
 
 // The words of a block: whether the stream is live, its number and coded format, whether a drain is owed and its ticket, three without use, the two queues.
 pub const LIVE: usize = 0;
@@ -118,12 +119,12 @@ pub fn drop_drain(b: &mut [u32])
 }
 
 // Where a queue's words start in a block.
-pub fn queue_start(q: QueueName) -> usize
+pub fn queue_start(q: QueueType) -> usize
     ensures inside { λ r. ⌜ r ≤ 92 ⌝ }
     ensures start { λ r. ⌜ r ≡ queueStart (queueTypeOf q) ⌝ }
 {
     match q {
-        QueueName::Input => INPUTS,
-        QueueName::Output => OUTPUTS,
+        QueueType::Input => INPUTS,
+        QueueType::Output => OUTPUTS,
     }
 }

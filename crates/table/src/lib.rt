@@ -44,12 +44,6 @@ pub enum Drain {
     Settled,
 }
 
-// One of a stream's two queues.
-pub enum QueueName {
-    Input,
-    Output,
-}
-
 // Makes the table fresh: 1 and nothing changed where it is too short, else 0 and the used words zero.
 pub fn fresh(table: &mut [u32]) -> u32
     ensures { λ r. ⌜ freshened r (now (table .exit)) ≡ freshen layout (now (table .entry)) ⌝ }

@@ -1,66 +1,101 @@
--- `stream::get_parameters` meets its contract: by the queue that the frame names.
-use denote.Ref.{now}
+-- `stream::get_parameters` meets its contract: what is kept of the queue is answered. That the words are a good stream's bounds width and height.
+use mathlib.Core.List.{[], _∷_}
+use mathlib.Core.Option.{some}
+use mathlib.Core.Path.{refl}
+use Prim.Native.Nat.{ℕ}
+use native.Mathlib.Omega.{arith}
 use borrow.Author.Needs.{needs}
-use Rattle.model.specs.Frames.{queueType}
-use Rattle.model.specs.Answers.{invalidParameter}
-use Rattle.frame.proofs.Checks.{get-unnamed}
-use Rattle.stream.specs.declared.Target.the-variants.{Neither}
+use Rattle.model.specs.Device.{queueOf}
+use Rattle.model.specs.Answers.{parameters}
+use Rattle.model.specs.Commands.{parameterWords}
+use Rattle.protocol.specs.Queue.{queueTypeOf}
+use Rattle.answer.specs.Answer.{answerTo}
 use Rattle.stream.specs.Replied.{asked}
-use Rattle.stream.proofs.Steps.{failed}
-use Rattle.stream.proofs.Tested.{named}
+use Rattle.stream.proofs.Steps.{queue-words, width-good, height-good, extent-most, replied}
+use Rattle.stream.proofs.Tested.{getting}
 use Rattle.stream.proofs.get_parameters.Statement.{statement}
 use Rattle.stream.proofs.get_parameters.Tie as tie
 
-queue-type-requires : tie.Need-queue-type-requires
-queue-type-requires c κs = search needs
+queue-start-requires : tie.Need-queue-start-requires
+queue-start-requires c κs = search needs
 
-queue-of-requires : tie.Need-queue-of-requires
-queue-of-requires c κs = search needs
+add-queue : tie.Need-add-queue
+add-queue c = search needs
 
-enum-known-target : tie.Need-enum-known-target
-enum-known-target c = search needs
+mul-queue : tie.Need-mul-queue
+mul-queue c = search needs
 
-enum-told : tie.Need-enum-told
-enum-told c = search needs
+sub-queue : tie.Need-sub-queue
+sub-queue c = search needs
 
-put-plain-requires : tie.Need-put-plain-requires
-put-plain-requires c κs = search needs
+part-queue-start : tie.Need-part-queue-start
+part-queue-start c = search needs
+
+part-queue-end : tie.Need-part-queue-end
+part-queue-end c = search needs
+
+width-requires : tie.Need-width-requires
+width-requires c κs = search needs
+
+height-requires : tie.Need-height-requires
+height-requires c κs = search needs
+
+rate-requires : tie.Need-rate-requires
+rate-requires c κs = search needs
+
+queue-format-requires : tie.Need-queue-format-requires
+queue-format-requires c κs = search needs
+
+put-parameters-requires : tie.Need-put-parameters-requires
+put-parameters-requires c κs =
+    let after-height = c .before .before .before in let after-width = after-height .before in let after-queue-start = after-width .before .before in
+    let start = after-queue-start .before .before .before in
+    let a = start .args in
+    let t = queueTypeOf (a .q) in
+    let l = start .pre .1 in
+    let Q = queueOf t (l .stream) in
+    let here = queue-words (l .holds) t _ (after-queue-start .queue-start .ensures .1) in (
+      search needs,
+      omega (arith, after-width .width .ensures Q here, extent-most (Q .width) (width-good (l .holds) t)),
+      omega (arith, after-height .height .ensures Q here, extent-most (Q .height) (height-good (l .holds) t)),
+    )
 
 same-length : tie.Need-same-length
 same-length c = search needs
 
 returns : tie.Need-returns
-returns c b h =
-    let a = c .before .before .before .before .before .before .before .before .before .before .before .args in
-    let f = now (a .frame) in
-    failed (a .ticket) invalidParameter h
-    (get-unnamed (asked (a .stream) (a .ticket) f b) b (named (queueType f) Neither (c .before .before .before .before .before .before .queue-of .ensures) (c .before .before .before .before .before .before .before .queue-type .ensures) (c .before .before .before .before .enum-told .given .1)))
-    (c .before .before .put-plain .ensures)
-
-get-queue-requires : tie.Need-get-queue-requires
-get-queue-requires c κs = search needs
-
-same-length-2 : tie.Need-same-length-2
-same-length-2 c = search needs
-
-same-length-3 : tie.Need-same-length-3
-same-length-3 c = search needs
-
-returns-2 : tie.Need-returns-2
-returns-2 c b h = c .before .before .get-queue .ensures (now (c .before .before .before .before .before .before .before .before .before .before .before .before .before .args .frame)) b h (named _ _ (c .before .before .before .before .before .before .before .before .queue-of .ensures) (c .before .before .before .before .before .before .before .before .before .queue-type .ensures) (c .before .before .before .before .before .before .target .given .1))
+returns c f b h =
+    let after-put-parameters = c .before .before in let after-queue-format = after-put-parameters .before .before in
+    let after-rate = after-queue-format .before in let after-height = after-rate .before in let after-width = after-height .before in
+    let after-queue-start = after-width .before .before in let start = after-queue-start .before .before .before in
+    let a = start .args in
+    let t = queueTypeOf (a .q) in
+    let Q = queueOf t b in
+    let here = queue-words h t _ (after-queue-start .queue-start .ensures .1) in
+    replied (answerTo (a .ticket) (a .stream) (parameters (parameterWords t b)) ∷ []) (some b)
+    (getting (asked (a .stream) (a .ticket) f b) b t)
+    (h .held)
+    (after-put-parameters .put-parameters .ensures .1 b (record {
+      isFormat = after-queue-format .queue-format .ensures (a .stream) b (h .held);
+      isWidth = after-width .width .ensures Q here;
+      isHeight = after-height .height .ensures Q here;
+      isRate = after-rate .rate .ensures Q here;
+    }))
 
 pub get-parameters-spec : {M : Type 1} → statement M
 get-parameters-spec =
     tie.close
     (tie.spec
-    queue-type-requires
-    queue-of-requires
-    enum-known-target
-    enum-told
-    put-plain-requires
+    queue-start-requires
+    add-queue
+    mul-queue
+    sub-queue
+    part-queue-start
+    part-queue-end
+    width-requires
+    height-requires
+    rate-requires
+    queue-format-requires
+    put-parameters-requires
     same-length
-    returns
-    get-queue-requires
-    same-length-2
-    same-length-3
-    returns-2)
+    returns)

@@ -2,8 +2,8 @@
 use mathlib.Core.Path.{sym, ap, _∙_}
 use borrow.Author.Needs.{needs}
 use Rattle.model.specs.Commands.{formatOf}
-use Rattle.table.specs.declared.QueueName.{QueueName}
-use Rattle.table.specs.Values.{queueTypeOf}
+use Rattle.protocol.specs.declared.queue.QueueType.{QueueType}
+use Rattle.protocol.specs.Queue.{queueTypeOf}
 use Rattle.stream.proofs.queue_format.Statement.{statement}
 use Rattle.stream.proofs.queue_format.Tie as tie
 
@@ -17,10 +17,10 @@ enum-told-2 : tie.Need-enum-told-2
 enum-told-2 c = search needs
 
 returns : tie.Need-returns
-returns c n b e = c .coded-format .ensures n b e ∙ ap (λ (q : QueueName). formatOf (queueTypeOf q) b) (sym (c .before .enum-told .given .1))
+returns c n b e = c .coded-format .ensures n b e ∙ ap (λ (q : QueueType). formatOf (queueTypeOf q) b) (sym (c .before .enum-told .given .1))
 
 returns-2 : tie.Need-returns-2
-returns-2 c n b e = ap (λ (q : QueueName). formatOf (queueTypeOf q) b) (sym (c .enum-told2 .given .1))
+returns-2 c n b e = ap (λ (q : QueueType). formatOf (queueTypeOf q) b) (sym (c .enum-told2 .given .1))
 
 pub queue-format-spec : {M : Type 1} → statement M
 queue-format-spec =

@@ -1,27 +1,24 @@
--- `stream::queue_resource` meets its contract: by the queue that the frame names.
+-- `stream::queue_resource` meets its contract: a bad frame, a shut queue and an absent number refuse, and otherwise the slot is found.
+use mathlib.Core.Path.{sym, ap, subst, _∙_}
+use Prim.Native.Nat.{ℕ}
 use denote.Ref.{now}
 use borrow.Author.Needs.{needs}
-use Rattle.model.specs.Frames.{queueType}
-use Rattle.model.specs.Answers.{invalidParameter}
-use Rattle.frame.proofs.Checks.{queue-unnamed}
-use Rattle.stream.specs.declared.Target.the-variants.{Neither}
+use Rattle.model.specs.Device.{queueOf}
+use Rattle.model.specs.Answers.{invalidOperation, invalidResource, invalidParameter}
+use Rattle.words.specs.declared.Found.{Found}
+use Rattle.words.specs.Found.{foundAt, Within}
+use Rattle.words.specs.Search.{findResource}
+use Rattle.protocol.specs.Queue.{queueTypeOf}
+use Rattle.laws.proofs.Tests.{passed, refused}
+use Rattle.frame.proofs.Checks.{queue-bad}
 use Rattle.stream.specs.Replied.{asked}
-use Rattle.stream.proofs.Steps.{failed}
-use Rattle.stream.proofs.Tested.{named}
+use Rattle.stream.proofs.Steps.{queue-words, failed}
+use Rattle.stream.proofs.Tested.{queueing-shut, queueing-absent}
 use Rattle.stream.proofs.queue_resource.Statement.{statement}
 use Rattle.stream.proofs.queue_resource.Tie as tie
 
-queue-type-requires : tie.Need-queue-type-requires
-queue-type-requires c κs = search needs
-
-queue-of-requires : tie.Need-queue-of-requires
-queue-of-requires c κs = search needs
-
-enum-known-target : tie.Need-enum-known-target
-enum-known-target c = search needs
-
-enum-told : tie.Need-enum-told
-enum-told c = search needs
+sizes-good-requires : tie.Need-sizes-good-requires
+sizes-good-requires c κs = search needs
 
 put-plain-requires : tie.Need-put-plain-requires
 put-plain-requires c κs = search needs
@@ -31,14 +28,16 @@ same-length c = search needs
 
 returns : tie.Need-returns
 returns c b h =
-    let a = c .before .before .before .before .before .before .before .before .before .before .before .args in
-    let f = now (a .frame) in
+    let a = c .before .before .before .before .before .before .before .before .before .args in
     failed (a .ticket) invalidParameter h
-    (queue-unnamed (asked (a .stream) (a .ticket) f b) b (named (queueType f) Neither (c .before .before .before .before .before .before .queue-of .ensures) (c .before .before .before .before .before .before .before .queue-type .ensures) (c .before .before .before .before .enum-told .given .1)))
+    (queue-bad (asked (a .stream) (a .ticket) (now (a .frame)) b) b (queueTypeOf (a .q)) (refused (c .before .before .before .before .before .sizes-good .ensures) (c .before .before .before .before .if1 .taken)))
     (c .before .before .put-plain .ensures)
 
-queue-in-requires : tie.Need-queue-in-requires
-queue-in-requires c κs = search needs
+queue-shut-requires : tie.Need-queue-shut-requires
+queue-shut-requires c κs = search needs
+
+put-plain-requires-2 : tie.Need-put-plain-requires-2
+put-plain-requires-2 c κs = search needs
 
 same-length-2 : tie.Need-same-length-2
 same-length-2 c = search needs
@@ -47,20 +46,114 @@ same-length-3 : tie.Need-same-length-3
 same-length-3 c = search needs
 
 returns-2 : tie.Need-returns-2
-returns-2 c b h = c .before .before .before .before .queue-in .ensures b h (named _ _ (c .before .before .before .before .before .before .before .before .before .before .queue-of .ensures) (c .before .before .before .before .before .before .before .before .before .before .before .queue-type .ensures) (c .before .before .before .before .before .before .before .before .target .given .1))
+returns-2 c b h =
+    let a = c .before .before .before .before .before .before .before .before .before .before .before .before .args in
+    failed (a .ticket) invalidOperation h
+    (queueing-shut (asked (a .stream) (a .ticket) (now (a .frame)) b) b (queueTypeOf (a .q)) (passed (c .before .before .before .before .before .before .before .before .sizes-good .ensures) (c .before .before .before .before .before .before .before .if1 .left))
+    (sym (c .before .before .before .before .if2 .taken) ∙ c .before .before .before .before .before .queue-shut .ensures (a .stream) b h))
+    (c .before .before .put-plain2 .ensures)
+
+queue-start-requires : tie.Need-queue-start-requires
+queue-start-requires c κs = search needs
+
+add-find-resource : tie.Need-add-find-resource
+add-find-resource c = search needs
+
+mul-find-resource : tie.Need-mul-find-resource
+mul-find-resource c = search needs
+
+sub-find-resource : tie.Need-sub-find-resource
+sub-find-resource c = search needs
+
+part-find-resource-start : tie.Need-part-find-resource-start
+part-find-resource-start c = search needs
+
+part-find-resource-end : tie.Need-part-find-resource-end
+part-find-resource-end c = search needs
+
+resource-requires : tie.Need-resource-requires
+resource-requires c κs = search needs
+
+find-resource-requires : tie.Need-find-resource-requires
+find-resource-requires c κs = search needs
+
+enum-known-found : tie.Need-enum-known-found
+enum-known-found c = search needs
+
+enum-told : tie.Need-enum-told
+enum-told c = search needs
+
+put-plain-requires-3 : tie.Need-put-plain-requires-3
+put-plain-requires-3 c κs = search needs
+
+same-length-4 : tie.Need-same-length-4
+same-length-4 c = search needs
+
+same-length-5 : tie.Need-same-length-5
+same-length-5 c = search needs
+
+returns-3 : tie.Need-returns-3
+returns-3 c b h =
+    let a = c .before .before .before .before .before .before .before .before .before .before .before .before .before .before .before .before .before .before .before .args in
+    let t = queueTypeOf (a .q) in
+    failed (a .ticket) invalidResource h
+    (queueing-absent (asked (a .stream) (a .ticket) (now (a .frame)) b) b t (passed (c .before .before .before .before .before .before .before .before .before .before .before .before .before .before .before .sizes-good .ensures) (c .before .before .before .before .before .before .before .before .before .before .before .before .before .before .if1 .left))
+    (sym (c .before .before .before .before .before .before .before .before .before .before .before .if2 .left) ∙ c .before .before .before .before .before .before .before .before .before .before .before .before .queue-shut .ensures (a .stream) b h)
+    (sym (ap foundAt (c .before .before .before .before .enum-told .given .1)) ∙ c .before .before .before .before .before .before .find-resource .ensures .1 (queueOf t b) (queue-words h t _ (c .before .before .before .before .before .before .before .before .before .before .queue-start .ensures .1))
+    ∙ ap (λ (n : ℕ). findResource n (queueOf t b .slots)) (c .before .before .before .before .before .before .before .resource .ensures)))
+    (c .before .before .put-plain3 .ensures)
+
+queue-slot-requires : tie.Need-queue-slot-requires
+queue-slot-requires c κs = (search needs, search needs, subst (λ (r : Found). Within r 16) (c .before .before .before .found .given .1) (c .before .before .before .before .before .find-resource .ensures .0), search needs)
+
+same-length-6 : tie.Need-same-length-6
+same-length-6 c = search needs
+
+same-length-7 : tie.Need-same-length-7
+same-length-7 c = search needs
+
+returns-4 : tie.Need-returns-4
+returns-4 c b h =
+    let a = c .before .before .before .before .before .before .before .before .before .before .before .before .before .before .before .before .before .before .before .before .before .before .before .args in
+    let t = queueTypeOf (a .q) in
+    let s = queueOf t b .slots in
+    c .before .before .before .before .queue-slot .ensures b h (record {
+      sizes = passed (c .before .before .before .before .before .before .before .before .before .before .before .before .before .before .before .before .before .before .before .sizes-good .ensures) (c .before .before .before .before .before .before .before .before .before .before .before .before .before .before .before .before .before .before .if1 .left);
+      takes = sym (c .before .before .before .before .before .before .before .before .before .before .before .before .before .before .before .before .queue-shut .ensures (a .stream) b h) ∙ c .before .before .before .before .before .before .before .before .before .before .before .before .before .before .before .if2 .left;
+      found =
+          sym (ap (λ (n : ℕ). findResource n s) (c .before .before .before .before .before .before .before .before .before .before .before .resource .ensures))
+          ∙ sym (c .before .before .before .before .before .before .before .before .before .before .find-resource .ensures .1 (queueOf t b) (queue-words h t _ (c .before .before .before .before .before .before .before .before .before .before .before .before .before .before .queue-start .ensures .1)))
+          ∙ ap foundAt (c .before .before .before .before .before .before .before .before .found .given .1);
+    })
 
 pub queue-resource-spec : {M : Type 1} → statement M
 queue-resource-spec =
     tie.close
     (tie.spec
-    queue-type-requires
-    queue-of-requires
-    enum-known-target
-    enum-told
+    sizes-good-requires
     put-plain-requires
     same-length
     returns
-    queue-in-requires
+    queue-shut-requires
+    put-plain-requires-2
     same-length-2
     same-length-3
-    returns-2)
+    returns-2
+    queue-start-requires
+    add-find-resource
+    mul-find-resource
+    sub-find-resource
+    part-find-resource-start
+    part-find-resource-end
+    resource-requires
+    find-resource-requires
+    enum-known-found
+    enum-told
+    put-plain-requires-3
+    same-length-4
+    same-length-5
+    returns-3
+    queue-slot-requires
+    same-length-6
+    same-length-7
+    returns-4)

@@ -4,7 +4,7 @@ use denote.Ref.{now}
 use borrow.Author.Needs.{needs}
 use Rattle.model.specs.Device.{queueOf}
 use Rattle.model.specs.Answers.{invalidOperation}
-use Rattle.table.specs.Values.{queueTypeOf}
+use Rattle.protocol.specs.Queue.{queueTypeOf}
 use Rattle.stream.specs.Replied.{asked}
 use Rattle.stream.proofs.Steps.{apart, queue-words, queue-back, failed, silent}
 use Rattle.stream.proofs.Tested.{queueing-again, queueing-new}

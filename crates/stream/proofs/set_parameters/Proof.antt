@@ -1,27 +1,28 @@
--- `stream::set_parameters` meets its contract: by the queue that the frame names.
+-- `stream::set_parameters` meets its contract: a bad frame or a Queued buffer refuses, and otherwise the queue comes back with the parameters of the frame.
+use mathlib.Core.Path.{sym, ap, _∙_}
+use mathlib.Core.Option.{some}
+use Prim.Native.Nat.{ℕ}
 use denote.Ref.{now}
 use borrow.Author.Needs.{needs}
-use Rattle.model.specs.Frames.{queueType}
-use Rattle.model.specs.Answers.{invalidParameter}
-use Rattle.frame.proofs.Checks.{set-unnamed}
-use Rattle.stream.specs.declared.Target.the-variants.{Neither}
+use Rattle.model.specs.Device.{queueOf, withQueue}
+use Rattle.model.specs.Frames.{frameWidth, frameHeight, frameRate}
+use Rattle.model.specs.Answers.{invalidOperation, invalidParameter}
+use Rattle.model.specs.Commands.{withParameters}
+use Rattle.protocol.specs.Queue.{queueTypeOf}
+use Rattle.frame.specs.Frame.{goodSet}
+use Rattle.laws.proofs.Tests.{passed, refused}
+use Rattle.frame.proofs.Checks.{set-bad}
 use Rattle.stream.specs.Replied.{asked}
-use Rattle.stream.proofs.Steps.{failed}
-use Rattle.stream.proofs.Tested.{named}
+use Rattle.stream.proofs.Steps.{queue-words, queue-back, succeeded, failed}
+use Rattle.stream.proofs.Tested.{setting-busy, setting-idle}
 use Rattle.stream.proofs.set_parameters.Statement.{statement}
 use Rattle.stream.proofs.set_parameters.Tie as tie
 
-queue-type-requires : tie.Need-queue-type-requires
-queue-type-requires c κs = search needs
+queue-format-requires : tie.Need-queue-format-requires
+queue-format-requires c κs = search needs
 
-queue-of-requires : tie.Need-queue-of-requires
-queue-of-requires c κs = search needs
-
-enum-known-target : tie.Need-enum-known-target
-enum-known-target c = search needs
-
-enum-told : tie.Need-enum-told
-enum-told c = search needs
+set-good-requires : tie.Need-set-good-requires
+set-good-requires c κs = search needs
 
 put-plain-requires : tie.Need-put-plain-requires
 put-plain-requires c κs = search needs
@@ -29,38 +30,127 @@ put-plain-requires c κs = search needs
 same-length : tie.Need-same-length
 same-length c = search needs
 
+same-length-2 : tie.Need-same-length-2
+same-length-2 c = search needs
+
 returns : tie.Need-returns
 returns c b h =
     let a = c .before .before .before .before .before .before .before .before .before .before .before .args in
+    let t = queueTypeOf (a .q) in
     let f = now (a .frame) in
     failed (a .ticket) invalidParameter h
-    (set-unnamed (asked (a .stream) (a .ticket) f b) b (named (queueType f) Neither (c .before .before .before .before .before .before .queue-of .ensures) (c .before .before .before .before .before .before .before .queue-type .ensures) (c .before .before .before .before .enum-told .given .1)))
+    (set-bad (asked (a .stream) (a .ticket) f b) b t (refused (c .before .before .before .before .before .set-good .ensures ∙ ap (λ (k : ℕ). goodSet k f) (c .before .before .before .before .before .before .queue-format .ensures (a .stream) b (h .held))) (c .before .before .before .before .if1 .taken)))
     (c .before .before .put-plain .ensures)
 
-set-queue-requires : tie.Need-set-queue-requires
-set-queue-requires c κs = search needs
+queue-start-requires : tie.Need-queue-start-requires
+queue-start-requires c κs = search needs
 
-same-length-2 : tie.Need-same-length-2
-same-length-2 c = search needs
+add-any-queued : tie.Need-add-any-queued
+add-any-queued c = search needs
+
+mul-any-queued : tie.Need-mul-any-queued
+mul-any-queued c = search needs
+
+sub-any-queued : tie.Need-sub-any-queued
+sub-any-queued c = search needs
+
+part-any-queued-start : tie.Need-part-any-queued-start
+part-any-queued-start c = search needs
+
+part-any-queued-end : tie.Need-part-any-queued-end
+part-any-queued-end c = search needs
+
+any-queued-requires : tie.Need-any-queued-requires
+any-queued-requires c κs = search needs
+
+put-plain-requires-2 : tie.Need-put-plain-requires-2
+put-plain-requires-2 c κs = search needs
 
 same-length-3 : tie.Need-same-length-3
 same-length-3 c = search needs
 
+same-length-4 : tie.Need-same-length-4
+same-length-4 c = search needs
+
 returns-2 : tie.Need-returns-2
-returns-2 c b h = c .before .before .before .before .set-queue .ensures b h (named _ _ (c .before .before .before .before .before .before .before .before .before .before .queue-of .ensures) (c .before .before .before .before .before .before .before .before .before .before .before .queue-type .ensures) (c .before .before .before .before .before .before .before .before .target .given .1))
+returns-2 c b h =
+    let a = c .before .before .before .before .before .before .before .before .before .before .before .before .before .before .before .before .args in
+    let t = queueTypeOf (a .q) in
+    let f = now (a .frame) in
+    failed (a .ticket) invalidOperation h
+    (setting-busy (asked (a .stream) (a .ticket) f b) b t
+    (passed (c .before .before .before .before .before .before .before .before .before .before .set-good .ensures ∙ ap (λ (k : ℕ). goodSet k f) (c .before .before .before .before .before .before .before .before .before .before .before .queue-format .ensures (a .stream) b (h .held))) (c .before .before .before .before .before .before .before .before .before .if1 .left))
+    (sym (c .before .before .before .before .if2 .taken) ∙ c .before .before .before .before .before .any-queued .ensures (queueOf t b) (queue-words h t _ (c .before .before .before .before .before .before .before .before .queue-start .ensures .1))))
+    (c .before .before .put-plain2 .ensures)
+
+add-keep-parameters : tie.Need-add-keep-parameters
+add-keep-parameters c = search needs
+
+mul-keep-parameters : tie.Need-mul-keep-parameters
+mul-keep-parameters c = search needs
+
+sub-keep-parameters : tie.Need-sub-keep-parameters
+sub-keep-parameters c = search needs
+
+part-keep-parameters-start : tie.Need-part-keep-parameters-start
+part-keep-parameters-start c = search needs
+
+part-keep-parameters-end : tie.Need-part-keep-parameters-end
+part-keep-parameters-end c = search needs
+
+keep-parameters-requires : tie.Need-keep-parameters-requires
+keep-parameters-requires c κs = search needs
+
+put-plain-requires-3 : tie.Need-put-plain-requires-3
+put-plain-requires-3 c κs = search needs
+
+same-length-5 : tie.Need-same-length-5
+same-length-5 c = search needs
+
+same-length-6 : tie.Need-same-length-6
+same-length-6 c = search needs
+
+returns-3 : tie.Need-returns-3
+returns-3 c b h =
+    let a = c .before .before .before .before .before .before .before .before .before .before .before .before .before .before .before .before .before .before .before .before .args in
+    let t = queueTypeOf (a .q) in
+    let f = now (a .frame) in
+    let y = withParameters (frameWidth f) (frameHeight f) (frameRate f) (queueOf t b) in
+    succeeded (a .ticket) (some (withQueue t y b))
+    (setting-idle (asked (a .stream) (a .ticket) f b) b t
+    (passed (c .before .before .before .before .before .before .before .before .before .before .before .before .before .before .set-good .ensures ∙ ap (λ (k : ℕ). goodSet k f) (c .before .before .before .before .before .before .before .before .before .before .before .before .before .before .before .queue-format .ensures (a .stream) b (h .held))) (c .before .before .before .before .before .before .before .before .before .before .before .before .before .if1 .left))
+    (sym (c .before .before .before .before .before .before .before .before .if2 .left) ∙ c .before .before .before .before .before .before .before .before .before .any-queued .ensures (queueOf t b) (queue-words h t _ (c .before .before .before .before .before .before .before .before .before .before .before .before .queue-start .ensures .1))))
+    (queue-back h t _ (c .before .before .before .before .before .before .before .before .before .before .before .before .queue-start .ensures .1) _ y (c .before .before .before .before .before .before .keep-parameters .ensures (queueOf t b)))
+    (c .before .before .put-plain3 .ensures)
 
 pub set-parameters-spec : {M : Type 1} → statement M
 set-parameters-spec =
     tie.close
     (tie.spec
-    queue-type-requires
-    queue-of-requires
-    enum-known-target
-    enum-told
+    queue-format-requires
+    set-good-requires
     put-plain-requires
     same-length
-    returns
-    set-queue-requires
     same-length-2
+    returns
+    queue-start-requires
+    add-any-queued
+    mul-any-queued
+    sub-any-queued
+    part-any-queued-start
+    part-any-queued-end
+    any-queued-requires
+    put-plain-requires-2
     same-length-3
-    returns-2)
+    same-length-4
+    returns-2
+    add-keep-parameters
+    mul-keep-parameters
+    sub-keep-parameters
+    part-keep-parameters-start
+    part-keep-parameters-end
+    keep-parameters-requires
+    put-plain-requires-3
+    same-length-5
+    same-length-6
+    returns-3)

@@ -2,7 +2,7 @@
 use native.Mathlib.Omega.{arith}
 use borrow.Author.Needs.{needs}
 use Rattle.model.specs.Device.{input, queueOf}
-use Rattle.table.specs.Values.{queueTypeOf}
+use Rattle.protocol.specs.Queue.{queueTypeOf}
 use Rattle.stream.proofs.Steps.{queue-words, queue-back, apart}
 use Rattle.pending.proofs.Ends.{answered-done, buffer-next, finish-answers}
 use Rattle.pending.proofs.reports.answer_slot.Statement.{statement}

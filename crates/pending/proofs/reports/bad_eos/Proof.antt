@@ -2,7 +2,8 @@
 use mathlib.Core.Path.{sym, ap, _∙_}
 use native.Mathlib.Omega.{arith}
 use borrow.Author.Needs.{needs}
-use Rattle.table.specs.Values.{drainOf, queueTypeOf}
+use Rattle.table.specs.Values.{drainOf}
+use Rattle.protocol.specs.Queue.{queueTypeOf}
 use Rattle.pending.proofs.Ends.{eos-absent, eos-input, eos-owed, eos-settled}
 use Rattle.pending.proofs.reports.bad_eos.Statement.{statement}
 use Rattle.pending.proofs.reports.bad_eos.Tie as tie

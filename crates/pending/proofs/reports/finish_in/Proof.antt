@@ -3,7 +3,7 @@ use mathlib.Core.Path.{sym, ap, _∙_}
 use borrow.Author.Needs.{needs}
 use Rattle.model.specs.Device.{queueOf}
 use Rattle.words.specs.Found.{foundAt}
-use Rattle.table.specs.Values.{queueTypeOf}
+use Rattle.protocol.specs.Queue.{queueTypeOf}
 use Rattle.stream.proofs.Steps.{queue-words}
 use Rattle.pending.proofs.Ends.{refused-done, finish-absent, within-at}
 use Rattle.pending.proofs.reports.finish_in.Statement.{statement}

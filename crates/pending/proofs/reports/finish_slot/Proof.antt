@@ -3,7 +3,7 @@ use mathlib.Core.Path.{sym, _∙_}
 use borrow.Author.Tests.{not-true, not-false}
 use borrow.Author.Needs.{needs}
 use Rattle.model.specs.Device.{queueOf}
-use Rattle.table.specs.Values.{queueTypeOf}
+use Rattle.protocol.specs.Queue.{queueTypeOf}
 use Rattle.stream.proofs.Steps.{queue-words, apart}
 use Rattle.pending.proofs.Ends.{refused-done, finish-idle, finish-eos}
 use Rattle.pending.proofs.reports.finish_slot.Statement.{statement}

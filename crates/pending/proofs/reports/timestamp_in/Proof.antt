@@ -1,7 +1,7 @@
 -- `pending::timestamp_in` meets its contract: by the queue.
 use mathlib.Core.Path.{sym, ap, _∙_}
 use borrow.Author.Needs.{needs}
-use Rattle.table.specs.Values.{queueTypeOf}
+use Rattle.protocol.specs.Queue.{queueTypeOf}
 use Rattle.pending.proofs.Ends.{told-input, told-output}
 use Rattle.pending.proofs.reports.timestamp_in.Statement.{statement}
 use Rattle.pending.proofs.reports.timestamp_in.Tie as tie

@@ -5,7 +5,7 @@ use borrow.Author.Needs.{needs}
 use Rattle.model.specs.Device.{buffers}
 use Rattle.model.specs.Answers.{success}
 use Rattle.model.specs.Commands.{stoppedAnswers, drainAnswers, drainEnded}
-use Rattle.table.specs.Values.{queueTypeOf}
+use Rattle.protocol.specs.Queue.{queueTypeOf}
 use Rattle.answer.specs.Answer.{answerTo}
 use Rattle.answer.proofs.Laws.{wrote-plain}
 use Rattle.pending.proofs.Ends.{wrote-more}

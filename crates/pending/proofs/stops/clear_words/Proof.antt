@@ -4,7 +4,7 @@ use borrow.Author.Needs.{needs}
 use Rattle.model.specs.Device.{Queue, occupied, queueOf, withQueue, withDrain}
 use Rattle.model.specs.Commands.{drainLeft, cleared}
 use Rattle.table.specs.Blocks.{placeWords}
-use Rattle.table.specs.Values.{queueTypeOf}
+use Rattle.protocol.specs.Queue.{queueTypeOf}
 use Rattle.table.proofs.Records.{queue-sized, queue-lent}
 use Rattle.stream.proofs.Steps.{slot-count}
 use Rattle.pending.proofs.Ends.{queue-kept}

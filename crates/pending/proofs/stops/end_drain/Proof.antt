@@ -1,7 +1,7 @@
 -- `pending::end_drain` meets its contract: by the queue.
 use mathlib.Core.Path.{ap, _∙_}
 use borrow.Author.Needs.{needs}
-use Rattle.table.specs.Values.{queueTypeOf}
+use Rattle.protocol.specs.Queue.{queueTypeOf}
 use Rattle.pending.proofs.Ends.{left-input, left-output}
 use Rattle.pending.proofs.stops.end_drain.Statement.{statement}
 use Rattle.pending.proofs.stops.end_drain.Tie as tie

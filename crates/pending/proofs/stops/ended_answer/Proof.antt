@@ -2,7 +2,7 @@
 use mathlib.Core.Path.{ap}
 use native.Mathlib.Omega.{arith}
 use borrow.Author.Needs.{needs}
-use Rattle.table.specs.Values.{queueTypeOf}
+use Rattle.protocol.specs.Queue.{queueTypeOf}
 use Rattle.pending.proofs.Ends.{wrote-ended, wrote-unended}
 use Rattle.pending.proofs.stops.ended_answer.Statement.{statement}
 use Rattle.pending.proofs.stops.ended_answer.Tie as tie

@@ -2,7 +2,7 @@
 use borrow.Author.Needs.{needs}
 use Rattle.model.specs.Device.{queueOf}
 use Rattle.model.proofs.WellFormed.{of-distinct}
-use Rattle.table.specs.Values.{queueTypeOf}
+use Rattle.protocol.specs.Queue.{queueTypeOf}
 use Rattle.stream.proofs.Steps.{queue-words, apart}
 use Rattle.pending.proofs.stops.stop_queue.Statement.{statement}
 use Rattle.pending.proofs.stops.stop_queue.Tie as tie
