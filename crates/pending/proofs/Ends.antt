@@ -11,7 +11,7 @@ use borrow.Author.Tests.{le-ltb, lt-leb, le-leb}
 use Rattle.laws.specs.Stores.{Wrote}
 use Rattle.laws.specs.Lists.{keep, isEmpty}
 use Rattle.laws.specs.Ascending.{above}
-use Rattle.laws.proofs.Lists.{none-is, keep-ext, keep-const, map-append}
+use Rattle.laws.proofs.Lists.{none-is, no-element, keep-ext, keep-const, map-append}
 use Rattle.laws.proofs.Ascending.{length-ascending}
 use Rattle.laws.proofs.Stores.{wrote-none, wrote-append}
 use Rattle.model.specs.Device.{QueueType, input, output, dequeued, Slot, resource, Stream, occupied, place, queueOf, withQueue, withSlots, Buffer, buffer, queuedIn, byResource, bufferOf, withDrain}
@@ -35,9 +35,9 @@ use Rattle.pending.specs.Done.{Done, clearAnswers, destroyAnswers, clear
 
 -- Reports that are refused, and reports that are answered
 
-pub refused-done : {n k : ℕ} {b : Stream} {v : Reply} {w room : List ℕ} → Holds n w b → v ≡ refuse k (some b) → Done n v w room room k 0
-refused-done {n} {k} {w = w} {room = room} h e =
-    subst (λ v. Done n v w room room k 0) (sym e) (record { refused = refl; replied = record { words = h .held; bytes = wrote-none room 0 } })
+pub refused-done : {n k refusal written : ℕ} {b : Stream} {v : Reply} {w room : List ℕ} → (refusal ≡ k) × (written ≡ 0) → Holds n w b → v ≡ refuse k (some b)
+    → Done n v w room room refusal written
+refused-done {room = room} told h e = record { refused = rw e (told .0); replied = record { words = rw e (h .held); bytes = rw (e, told .1) (wrote-none room 0) } }
 
 pub answered-done : {n r : ℕ} {v : Reply} {w d e : List ℕ} (l : List Answer) (s : Option Stream) → v ≡ reply l s → w ≡ placeWords (place n s) → Wrote d e 0 r (bytesOf l) → Done n v w d e 0 r
 answered-done {n} {r} {w = w} {d = d} {e = e} l s is held bytes =
@@ -94,10 +94,6 @@ module _ (q : QueueType) (i : Buffer) (ts : ℕ) where
   pub told-output : q ≡ output → ts ≡ timestampOf q i ts
   told-output e = rw e
 
--- the slot that was found
-pub within-at : {r : Found} {k : ℕ} (n : ℕ) → r ≡ At k → Within r n → k < n
-within-at n e h = subst (λ (x : Found). Within x n) e h
-
 pub plain-next : {d e : List ℕ} {at r : ℕ} (ticket code stream : ℕ) → Wrote d e at r (plainBytes ticket code stream) → r ≡ at + 16
 plain-next ticket code stream w = w .next ∙ rw (plain-length ticket code stream)
 
@@ -137,10 +133,6 @@ bytes-append (a ∷ l) m = rw (bytes-append l m) (simp append-assoc)
 
 pub wrote-more : {d e f : List ℕ} {at m r : ℕ} (k l : List Answer) → Wrote d e at m (bytesOf k) → Wrote e f m r (bytesOf l) → Wrote d f at r (bytesOf (k ++ l))
 wrote-more {d} {f = f} {at = at} {r = r} k l p q = subst (λ (x : List ℕ). Wrote d f at r x) (sym (bytes-append k l)) (wrote-append (bytesOf k) (bytesOf l) p q)
-
-no-more : {A : Type 0} (l : List A) → length l ≡ 0 → l ≡ []
-no-more [] h = refl
-no-more (x ∷ l) h = absurd (omega arith)
 
 -- after some turns: the buffers that were answered stand before those from `least` on
 pub record Along (n : ℕ) (t : QueueType) (s : List Slot) (d e : List ℕ) (at next least turn : ℕ) : Type 0 where
@@ -188,7 +180,7 @@ module _ (n : ℕ) (t : QueueType) (s : List Slot) where
     pub along-full : length s ≡ 16 → 16 ≤ turn → Wrote d e at m (bytesOf (stoppedAnswers n t (byResource (queuedIn s))))
     along-full h k =
         let left = keep (above (λ (i : Buffer). i .resource) least) (byResource (queuedIn s)) in
-        ended (no-more left (omega (
+        ended (no-element left (omega (
           arith,
           a .counted,
           length-append (a .passed) left,
@@ -237,17 +229,10 @@ pub queue-kept : (q : QueueType) (x : Option ℕ) (b : Stream) → queueOf q (wi
 queue-kept input x b = refl
 queue-kept output x b = refl
 
-pub replied-as : {n r : ℕ} {v v′ : Reply} {w d e : List ℕ} → v′ ≡ v → Replied n v w d e r → Replied n v′ w d e r
-replied-as {n} {r} {w = w} {d = d} {e = e} is x = subst (λ v. Replied n v w d e r) (sym is) x
-
 module _ (n t : ℕ) (f : List ℕ) (b : Stream) where
-  pub clear-named : (q : QueueType) → queueNamed (queueType f) ≡ some q → onClear (asked n t f b) b ≡ reply (clearAnswers n t q b) (some (clearLeaves q b))
-  unfolding onClear first
-  clear-named q e = rw e
-
-  pub clear-unnamed : queueNamed (queueType f) ≡ none → onClear (asked n t f b) b ≡ reply (answerTo t n (failure invalidParameter) ∷ []) (some b)
-  unfolding onClear first
-  clear-unnamed e = rw e
+  pub clear-is : (q : QueueType) → onClear (asked n t f b) b q ≡ reply (clearAnswers n t q b) (some (clearLeaves q b))
+  unfolding onClear
+  clear-is q = refl
 
   pub destroy-is : onDestroy (asked n t f b) b ≡ reply (destroyAnswers n t b) none
   unfolding onDestroy

@@ -11,16 +11,17 @@ ghost use Rattle.words.specs.Search.{slotAt, isQueued, timestampIn, findResourc
 ghost use Rattle.protocol.specs.Queue.{queueTypeOf};
 ghost use Rattle.stream.specs.Replied.{Holds};
 ghost use Rattle.pending.specs.Done.{Done};
-use crate::Outcome;
-use answer::OK;
-use stream::Target;
+use protocol::BAD_FLAGS;
+use protocol::EOS;
+use protocol::Named;
+use protocol::OK;
+use protocol::Outcome;
+use protocol::QueueType;
+use protocol::UNEXPECTED_REPORT;
+use protocol::refused;
 use table::Drain;
-use table::QueueName;
 use words::Found;
 use words::QUEUE_WORDS;
-
-// The flag of the end of a stream.
-const EOS: u32 = 2;
 
 // A drained report: an owed drain is answered where no input is Queued.
 pub fn drained(block: &mut [u32], stream: u32, room: &mut [u8]) -> Outcome
@@ -29,17 +30,11 @@ pub fn drained(block: &mut [u32], stream: u32, room: &mut [u8]) -> Outcome
 {
     let drain = table::drain_owed(block);
     let Drain::Owed(ticket) = drain else {
-        return Outcome {
-            refusal: 5,
-            written: 0,
-        };
+        return refused(UNEXPECTED_REPORT);
     };
-    let at = table::queue_start(QueueName::Input);
+    let at = table::queue_start(QueueType::Input);
     if words::any_queued(&block[at..at + QUEUE_WORDS]) {
-        return Outcome {
-            refusal: 5,
-            written: 0,
-        };
+        return refused(UNEXPECTED_REPORT);
     }
     table::drop_drain(block);
     let written = answer::put_plain(room, 0, ticket, OK, stream);
@@ -62,20 +57,17 @@ pub fn finish(
     requires { ⌜ (length (now block) ≡ 512) × (flags ≤ 3) × (1056 ≤ length (now room)) ⌝ }
     ensures { λ r. ⌜ ((b : Stream) → Holds stream (now (block .entry)) b → Done stream (onFinish stream queue resource flags ts (some b)) (now (block .exit)) (now (room .entry)) (now (room .exit)) (r .refusal) (r .written)) ⌝ }
 {
-    let target = stream::queue_of(queue);
-    let Target::One(name) = target else {
-        return Outcome {
-            refusal: 5,
-            written: 0,
-        };
+    let named = protocol::queue_named(queue);
+    let Named::One(q) = named else {
+        return refused(UNEXPECTED_REPORT);
     };
-    finish_in(block, name, stream, resource, flags, ts, room)
+    finish_in(block, q, stream, resource, flags, ts, room)
 }
 
 // A finish of the resource of that number in a queue.
 fn finish_in(
     block: &mut [u32],
-    queue: QueueName,
+    queue: QueueType,
     stream: u32,
     resource: u32,
     flags: u32,
@@ -88,10 +80,7 @@ fn finish_in(
     let at = table::queue_start(queue);
     let found = words::find_resource(&block[at..at + QUEUE_WORDS], resource);
     let Found::At(k) = found else {
-        return Outcome {
-            refusal: 5,
-            written: 0,
-        };
+        return refused(UNEXPECTED_REPORT);
     };
     finish_slot(block, queue, k, stream, flags, timestamp, room)
 }
@@ -99,7 +88,7 @@ fn finish_in(
 // A finish of the resource in slot k of a queue.
 fn finish_slot(
     block: &mut [u32],
-    queue: QueueName,
+    queue: QueueType,
     k: usize,
     stream: u32,
     flags: u32,
@@ -111,29 +100,23 @@ fn finish_slot(
 {
     let at = table::queue_start(queue);
     if !words::slot_queued(&block[at..at + QUEUE_WORDS], k) {
-        return Outcome {
-            refusal: 5,
-            written: 0,
-        };
+        return refused(UNEXPECTED_REPORT);
     }
     if bad_eos(block, queue, flags) {
-        return Outcome {
-            refusal: 6,
-            written: 0,
-        };
+        return refused(BAD_FLAGS);
     }
     answer_slot(block, queue, k, stream, flags, timestamp, room)
 }
 
 // Whether the flags have EOS on an input, or with no drain owed.
-fn bad_eos(block: &[u32], queue: QueueName, flags: u32) -> bool
+fn bad_eos(block: &[u32], queue: QueueType, flags: u32) -> bool
     requires { ⌜ length (now block) ≡ 512 ⌝ }
     ensures { λ r. ⌜ ((n : ℕ) (b : Stream) → Holds n (now (block .entry)) b → r ≡ badEos flags (queueTypeOf queue) b) ⌝ }
 {
     if flags < EOS {
         return false;
     }
-    let QueueName::Output = queue else {
+    let QueueType::Output = queue else {
         return true;
     };
     let drain = table::drain_owed(block);
@@ -146,7 +129,7 @@ fn bad_eos(block: &[u32], queue: QueueName, flags: u32) -> bool
 // Answers the Queued buffer in slot k, which becomes Dequeued.
 fn answer_slot(
     block: &mut [u32],
-    queue: QueueName,
+    queue: QueueType,
     k: usize,
     stream: u32,
     flags: u32,
@@ -168,11 +151,11 @@ fn answer_slot(
 }
 
 // The timestamp that a finish answers with: an input's own, an output's the report's.
-fn timestamp_in(q: &[u32], queue: QueueName, k: usize, timestamp: u64) -> u64
+fn timestamp_in(q: &[u32], queue: QueueType, k: usize, timestamp: u64) -> u64
     requires { ⌜ (length (now q) ≡ 84) × (k < 16) ⌝ }
     ensures { λ r. ⌜ ((Q : Queue) (i : Buffer) → now (q .entry) ≡ queueWords Q → i .timestamp ≡ timestampIn (slotAt k (Q .slots)) → r ≡ timestampOf (queueTypeOf queue) i timestamp) ⌝ }
 {
-    let QueueName::Input = queue else {
+    let QueueType::Input = queue else {
         return timestamp;
     };
     words::slot_timestamp(q, k)

@@ -2,11 +2,12 @@
 ghost use mathlib.Core.Path.{_≡_};
 ghost use mathlib.Core.Bool.{true};
 ghost use mathlib.Core.Option.{some};
-ghost use mathlib.Core.List.{[], _∷_};
+ghost use mathlib.Core.List.{List, [], _∷_};
 ghost use Prim.Native.Nat.{ℕ, _+_, _<_, _≤_};
 ghost use lib.ListN.{length};
 ghost use Rattle.laws.specs.Stores.{Wrote};
-ghost use Rattle.model.specs.Device.{QueueType, Queue, Stream, occupied, Buffer, withDrain, withSlots, queuedIn, byResource, buffers, stopAll};
+ghost use Rattle.model.specs.Device.{QueueType as Meant};
+ghost use Rattle.model.specs.Device.{Queue, Stream, occupied, Buffer, withDrain, withSlots, queuedIn, byResource, buffers, stopAll};
 ghost use Rattle.model.specs.Answers.{bytesOf};
 ghost use Rattle.model.specs.Replies.{reply};
 ghost use Rattle.model.specs.Commands.{stoppedAnswers, drainAnswers, onDestroy, drainEnded, drainLeft, onClear};
@@ -18,50 +19,28 @@ ghost use Rattle.table.specs.Blocks.{placeWords};
 ghost use Rattle.protocol.specs.Queue.{queueTypeOf};
 ghost use Rattle.stream.specs.Replied.{Holds, asked, Replied};
 ghost use Rattle.pending.specs.Done.{clearAnswers, destroyAnswers, clearLeaves};
-use answer::INVALID_PARAMETER;
-use answer::OK;
-use stream::Target;
+use protocol::ERR;
+use protocol::OK;
+use protocol::QueueType;
 use table::Drain;
-use table::QueueName;
 use words::Found;
 use words::QUEUE_WORDS;
 use words::SLOTS;
 
-// The flag of a buffer that was stopped.
-const ERR: u32 = 1;
-
-// 0x0107 clear: the Queued buffers of a queue and, for input, an owed drain are answered, then the command.
-pub fn clear(block: &mut [u32], stream: u32, ticket: u32, frame: &[u8], room: &mut [u8]) -> usize
-    requires { ⌜ (length (now block) ≡ 512) × (length (now frame) ≡ 16) × (1056 ≤ length (now room)) ⌝ }
-    ensures { λ r. ⌜ ((b : Stream) → Holds stream (now (block .entry)) b → Replied stream (onClear (asked stream ticket (now (frame .entry)) b) b) (now (block .exit)) (now (room .entry)) (now (room .exit)) r) ⌝ }
-{
-    let target = stream::queue_of(frame::queue_type(frame));
-    let Target::One(queue) = target else {
-        return answer::put_plain(room, 0, ticket, INVALID_PARAMETER, stream);
-    };
-    clear_queue(block, queue, stream, ticket, room)
-}
-
-// A clear of the queue: answers first, then changes.
-fn clear_queue(
-    block: &mut [u32],
-    queue: QueueName,
-    stream: u32,
-    ticket: u32,
-    room: &mut [u8],
-) -> usize
+// 0x0107 clear: the Queued buffers of a queue and, for input, an owed drain are answered, then the command; then the changes are made.
+pub fn clear(block: &mut [u32], stream: u32, ticket: u32, q: QueueType, room: &mut [u8]) -> usize
     requires { ⌜ (length (now block) ≡ 512) × (1056 ≤ length (now room)) ⌝ }
-    ensures { λ r. ⌜ ((b : Stream) → Holds stream (now (block .entry)) b → Replied stream (reply (clearAnswers stream ticket (queueTypeOf queue) b) (some (clearLeaves (queueTypeOf queue) b))) (now (block .exit)) (now (room .entry)) (now (room .exit)) r) ⌝ }
+    ensures { λ r. ⌜ ((f : List ℕ) (b : Stream) → Holds stream (now (block .entry)) b → Replied stream (onClear (asked stream ticket f b) b (queueTypeOf q)) (now (block .exit)) (now (room .entry)) (now (room .exit)) r) ⌝ }
 {
-    let written = clear_answers(block, queue, stream, ticket, room);
-    clear_words(block, queue);
+    let written = clear_answers(block, q, stream, ticket, room);
+    clear_words(block, q);
     written
 }
 
 // Writes the answers of a clear: the queue's Queued buffers, the drain that it ends, itself.
 fn clear_answers(
     block: &[u32],
-    queue: QueueName,
+    queue: QueueType,
     stream: u32,
     ticket: u32,
     room: &mut [u8],
@@ -75,7 +54,7 @@ fn clear_answers(
 }
 
 // Changes a block as a clear of the queue does.
-fn clear_words(block: &mut [u32], queue: QueueName)
+fn clear_words(block: &mut [u32], queue: QueueType)
     requires { ⌜ length (now block) ≡ 512 ⌝ }
     ensures { λ _. ⌜ ((n : ℕ) (b : Stream) → Holds n (now (block .entry)) b → now (block .exit) ≡ placeWords (occupied n (clearLeaves (queueTypeOf queue) b))) ⌝ }
 {
@@ -85,11 +64,11 @@ fn clear_words(block: &mut [u32], queue: QueueName)
 }
 
 // Drops the drain that a clear of the queue ends.
-fn end_drain(block: &mut [u32], queue: QueueName)
+fn end_drain(block: &mut [u32], queue: QueueType)
     requires { ⌜ length (now block) ≡ 512 ⌝ }
     ensures { λ _. ⌜ ((n : ℕ) (b : Stream) → now (block .entry) ≡ placeWords (occupied n b) → now (block .exit) ≡ placeWords (occupied n (withDrain (drainLeft (queueTypeOf queue) b) b))) ⌝ }
 {
-    let QueueName::Input = queue else {
+    let QueueType::Input = queue else {
         return;
     };
     table::drop_drain(block);
@@ -105,9 +84,9 @@ fn clear_slots(q: &mut [u32])
 }
 
 // 0x0102 destroy: all that waits is answered, then the command, and the block becomes vacant.
-pub fn destroy(block: &mut [u32], stream: u32, ticket: u32, frame: &[u8], room: &mut [u8]) -> usize
-    requires { ⌜ (length (now block) ≡ 512) × (length (now frame) ≡ 8) × (1056 ≤ length (now room)) ⌝ }
-    ensures { λ r. ⌜ ((b : Stream) → Holds stream (now (block .entry)) b → Replied stream (onDestroy (asked stream ticket (now (frame .entry)) b) b) (now (block .exit)) (now (room .entry)) (now (room .exit)) r) ⌝ }
+pub fn destroy(block: &mut [u32], stream: u32, ticket: u32, room: &mut [u8]) -> usize
+    requires { ⌜ (length (now block) ≡ 512) × (1056 ≤ length (now room)) ⌝ }
+    ensures { λ r. ⌜ ((f : List ℕ) (b : Stream) → Holds stream (now (block .entry)) b → Replied stream (onDestroy (asked stream ticket f b) b) (now (block .exit)) (now (room .entry)) (now (room .exit)) r) ⌝ }
 {
     let written = destroy_answers(block, stream, ticket, room);
     table::free_stream(block);
@@ -119,14 +98,14 @@ fn destroy_answers(block: &[u32], stream: u32, ticket: u32, room: &mut [u8]) -> 
     requires { ⌜ (length (now block) ≡ 512) × (1056 ≤ length (now room)) ⌝ }
     ensures { λ r. ⌜ ((n : ℕ) (b : Stream) → Holds n (now (block .entry)) b → Wrote (now (room .entry)) (now (room .exit)) 0 r (bytesOf (destroyAnswers stream ticket b))) ⌝ }
 {
-    let inputs = stop_queue(block, QueueName::Input, 0, stream, room);
-    let outputs = stop_queue(block, QueueName::Output, inputs, stream, room);
+    let inputs = stop_queue(block, QueueType::Input, 0, stream, room);
+    let outputs = stop_queue(block, QueueType::Output, inputs, stream, room);
     let drain = drain_answer(block, outputs, stream, room);
     answer::put_plain(room, drain, ticket, OK, stream)
 }
 
 // Answers the Queued buffers of one of a block's queues as stopped.
-fn stop_queue(block: &[u32], queue: QueueName, at: usize, stream: u32, room: &mut [u8]) -> usize
+fn stop_queue(block: &[u32], queue: QueueType, at: usize, stream: u32, room: &mut [u8]) -> usize
     requires { ⌜ (length (now block) ≡ 512) × (at + 512 ≤ length (now room)) ⌝ }
     ensures bound { λ r. ⌜ r ≤ at + 512 ⌝ }
     ensures written { λ r. ⌜ ((n : ℕ) (b : Stream) → Holds n (now (block .entry)) b → Wrote (now (room .entry)) (now (room .exit)) at r (bytesOf (stoppedAnswers stream (queueTypeOf queue) (buffers (queueTypeOf queue) b)))) ⌝ }
@@ -139,7 +118,7 @@ fn stop_queue(block: &[u32], queue: QueueName, at: usize, stream: u32, room: &mu
 fn stop_answers(q: &[u32], at: usize, stream: u32, room: &mut [u8]) -> usize
     requires { ⌜ (length (now q) ≡ 84) × (at + 512 ≤ length (now room)) ⌝ }
     ensures bound { λ r. ⌜ r ≤ at + 512 ⌝ }
-    ensures written { λ r. ⌜ ((Q : Queue) (t : QueueType) → distinctSlots (Q .slots) ≡ true → now (q .entry) ≡ queueWords Q → Wrote (now (room .entry)) (now (room .exit)) at r (bytesOf (stoppedAnswers stream t (byResource (queuedIn (Q .slots)))))) ⌝ }
+    ensures written { λ r. ⌜ ((Q : Queue) (t : Meant) → distinctSlots (Q .slots) ≡ true → now (q .entry) ≡ queueWords Q → Wrote (now (room .entry)) (now (room .exit)) at r (bytesOf (stoppedAnswers stream t (byResource (queuedIn (Q .slots)))))) ⌝ }
 {
     let mut next = at;
     let mut least: u64 = 0;
@@ -160,7 +139,7 @@ fn stop_answers(q: &[u32], at: usize, stream: u32, room: &mut [u8]) -> usize
 fn stop_answer(q: &[u32], k: usize, at: usize, stream: u32, room: &mut [u8]) -> usize
     requires { ⌜ (length (now q) ≡ 84) × (k < 16) × (at + 32 ≤ length (now room)) ⌝ }
     ensures next { λ r. ⌜ r ≡ at + 32 ⌝ }
-    ensures written { λ r. ⌜ ((Q : Queue) (t : QueueType) (i : Buffer) → now (q .entry) ≡ queueWords Q → i .ticket ≡ ticketIn (slotAt k (Q .slots)) → i .timestamp ≡ timestampIn (slotAt k (Q .slots)) → Wrote (now (room .entry)) (now (room .exit)) at r (bytesOf (stoppedAnswers stream t (i ∷ [])))) ⌝ }
+    ensures written { λ r. ⌜ ((Q : Queue) (t : Meant) (i : Buffer) → now (q .entry) ≡ queueWords Q → i .ticket ≡ ticketIn (slotAt k (Q .slots)) → i .timestamp ≡ timestampIn (slotAt k (Q .slots)) → Wrote (now (room .entry)) (now (room .exit)) at r (bytesOf (stoppedAnswers stream t (i ∷ [])))) ⌝ }
 {
     let ticket = words::slot_ticket(q, k);
     let timestamp = words::slot_timestamp(q, k);
@@ -168,12 +147,12 @@ fn stop_answer(q: &[u32], k: usize, at: usize, stream: u32, room: &mut [u8]) -> 
 }
 
 // Answers the drain that a clear of the queue ends, if it ends one.
-fn ended_answer(block: &[u32], queue: QueueName, at: usize, stream: u32, room: &mut [u8]) -> usize
+fn ended_answer(block: &[u32], queue: QueueType, at: usize, stream: u32, room: &mut [u8]) -> usize
     requires { ⌜ (length (now block) ≡ 512) × (at + 16 ≤ length (now room)) ⌝ }
     ensures bound { λ r. ⌜ r ≤ at + 16 ⌝ }
     ensures written { λ r. ⌜ ((n : ℕ) (b : Stream) → Holds n (now (block .entry)) b → Wrote (now (room .entry)) (now (room .exit)) at r (bytesOf (drainAnswers stream (drainEnded (queueTypeOf queue) b)))) ⌝ }
 {
-    let QueueName::Input = queue else {
+    let QueueType::Input = queue else {
         return at;
     };
     drain_answer(block, at, stream, room)

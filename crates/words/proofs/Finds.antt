@@ -1,5 +1,5 @@
--- What the slots from a place on say of all.
-use mathlib.Core.Path.{_≡_, refl, sym, ap, _∙_}
+-- What was found lies within its bound, and what the slots from a place on say of all.
+use mathlib.Core.Path.{_≡_, refl, sym, ap, _∙_, subst}
 use mathlib.Core.Bool.{true, false}
 use mathlib.Core.List.{List, _∷_}
 use Prim.Native.Nat.{ℕ, _+_, _<_}
@@ -8,7 +8,14 @@ use lib.ListN.{length, drop}
 use lib.Seq.{drop-cons}
 use Rattle.laws.proofs.Tests.{never}
 use Rattle.model.specs.Device.{created, queued, dequeued, Slot, free, resource, buffer, queuedIn}
+use Rattle.words.specs.declared.Found.{Found}
+use Rattle.words.specs.declared.Found.the-variants.{At}
+use Rattle.words.specs.Found.{Within}
 use Rattle.words.specs.Search.{slotAt, isQueued, numberIn, ticketIn, timestampIn}
+
+-- a place that was found
+pub found-within : {r : Found} {k : ℕ} (n : ℕ) → r ≡ At k → Within r n → k < n
+found-within n e h = subst (λ (x : Found). Within x n) e h
 
 -- the slots from i on are the slot at i and those behind it
 module _ (s : List Slot) (i : ℕ) (h : i < length s) where

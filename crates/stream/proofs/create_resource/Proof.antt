@@ -1,11 +1,11 @@
 -- `stream::create_resource` meets its contract: a bad frame, a number that is there and a full queue refuse, and otherwise the queue comes back with the new resource.
-use mathlib.Core.Path.{sym, ap, subst, _∙_}
+use mathlib.Core.Path.{sym, ap, _∙_}
 use denote.Ref.{now}
 use borrow.Author.Needs.{needs}
 use Rattle.model.specs.Device.{queueOf}
 use Rattle.model.specs.Answers.{outOfMemory, invalidResource, invalidParameter}
-use Rattle.words.specs.declared.Found.{Found}
-use Rattle.words.specs.Found.{foundAt, Within}
+use Rattle.words.specs.Found.{foundAt}
+use Rattle.words.proofs.Finds.{found-within}
 use Rattle.protocol.specs.Queue.{queueTypeOf}
 use Rattle.laws.proofs.Tests.{passed, refused}
 use Rattle.frame.proofs.Checks.{resource-bad}
@@ -133,7 +133,7 @@ part-set-created-end : tie.Need-part-set-created-end
 part-set-created-end c = search needs
 
 set-created-requires : tie.Need-set-created-requires
-set-created-requires c κs = (search needs, subst (λ (r : Found). Within r 16) (c .before .before .found .given .1) (c .before .before .before .before .find-free .ensures .0))
+set-created-requires c κs = (search needs, found-within 16 (c .before .before .found .given .1) (c .before .before .before .before .find-free .ensures .0))
 
 put-plain-requires-4 : tie.Need-put-plain-requires-4
 put-plain-requires-4 c κs = search needs

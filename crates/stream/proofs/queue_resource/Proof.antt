@@ -1,12 +1,12 @@
 -- `stream::queue_resource` meets its contract: a bad frame, a shut queue and an absent number refuse, and otherwise the slot is found.
-use mathlib.Core.Path.{sym, ap, subst, _∙_}
+use mathlib.Core.Path.{sym, ap, _∙_}
 use Prim.Native.Nat.{ℕ}
 use denote.Ref.{now}
 use borrow.Author.Needs.{needs}
 use Rattle.model.specs.Device.{queueOf}
 use Rattle.model.specs.Answers.{invalidOperation, invalidResource, invalidParameter}
-use Rattle.words.specs.declared.Found.{Found}
-use Rattle.words.specs.Found.{foundAt, Within}
+use Rattle.words.specs.Found.{foundAt}
+use Rattle.words.proofs.Finds.{found-within}
 use Rattle.words.specs.Search.{findResource}
 use Rattle.protocol.specs.Queue.{queueTypeOf}
 use Rattle.laws.proofs.Tests.{passed, refused}
@@ -104,7 +104,7 @@ returns-3 c b h =
     (c .before .before .put-plain3 .ensures)
 
 queue-slot-requires : tie.Need-queue-slot-requires
-queue-slot-requires c κs = (search needs, search needs, subst (λ (r : Found). Within r 16) (c .before .before .before .found .given .1) (c .before .before .before .before .before .find-resource .ensures .0), search needs)
+queue-slot-requires c κs = (search needs, search needs, found-within 16 (c .before .before .before .found .given .1) (c .before .before .before .before .before .find-resource .ensures .0), search needs)
 
 same-length-6 : tie.Need-same-length-6
 same-length-6 c = search needs

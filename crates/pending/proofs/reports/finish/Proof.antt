@@ -1,24 +1,29 @@
 -- `pending::finish` meets its contract: by the queue that the report names.
-use mathlib.Core.Path.{refl}
+use mathlib.Core.Path.{sym, ap, _∙_}
 use native.Mathlib.Omega.{arith}
 use borrow.Author.Needs.{needs}
-use Rattle.stream.specs.declared.Target.the-variants.{Neither}
-use Rattle.stream.proofs.Tested.{named}
+use Rattle.protocol.specs.Queue.{queueMeant}
 use Rattle.pending.proofs.Ends.{refused-done, done-as, finish-named, finish-unnamed}
 use Rattle.pending.proofs.reports.finish.Statement.{statement}
 use Rattle.pending.proofs.reports.finish.Tie as tie
 
-queue-of-requires : tie.Need-queue-of-requires
-queue-of-requires c κs = search needs
+queue-named-requires : tie.Need-queue-named-requires
+queue-named-requires c κs = search needs
 
-enum-known-target : tie.Need-enum-known-target
-enum-known-target c = search needs
+enum-known-named : tie.Need-enum-known-named
+enum-known-named c = search needs
 
 enum-told : tie.Need-enum-told
 enum-told c = search needs
 
+refused-requires : tie.Need-refused-requires
+refused-requires c κs = search needs
+
 returns : tie.Need-returns
-returns c b h = refused-done h (finish-unnamed _ _ _ _ _ b (omega arith) (named _ Neither (c .before .before .queue-of .ensures) refl (c .enum-told .given .1)))
+returns c b h =
+    let after-enum-told = c .before in let after-queue-named = after-enum-told .before .before in
+    refused-done (c .refused .ensures) h
+    (finish-unnamed _ _ _ _ _ b (omega arith) (sym (after-queue-named .queue-named .ensures) ∙ ap queueMeant (after-enum-told .enum-told .given .1)))
 
 finish-in-requires : tie.Need-finish-in-requires
 finish-in-requires c κs = search needs
@@ -31,17 +36,20 @@ same-length-2 c = search needs
 
 returns-2 : tie.Need-returns-2
 returns-2 c b h =
-    let a = c .before .before .before .before .before .before .before .before .before .before .before .before .before .args in
-    done-as (finish-named (a .stream) (a .queue) (a .resource) (a .flags) (a .ts) b _ (omega arith) (named _ _ (c .before .before .before .before .before .before .before .before .before .before .queue-of .ensures) refl (c .before .before .before .before .before .before .before .before .target .given .1)))
-    (c .before .before .before .before .finish-in .ensures b h)
+    let after-finish-in = c .before .before .before .before in let after-named = after-finish-in .before .before .before .before in
+    let after-queue-named = after-named .before .before in let start = after-queue-named .before .before .before in
+    let a = start .args in
+    done-as (finish-named (a .stream) (a .queue) (a .resource) (a .flags) (a .ts) b _ (omega arith) (sym (after-queue-named .queue-named .ensures) ∙ ap queueMeant (after-named .named .given .1)))
+    (after-finish-in .finish-in .ensures b h)
 
 pub finish-spec : {M : Type 1} → statement M
 finish-spec =
     tie.close
     (tie.spec
-    queue-of-requires
-    enum-known-target
+    queue-named-requires
+    enum-known-named
     enum-told
+    refused-requires
     returns
     finish-in-requires
     same-length

@@ -1,66 +1,35 @@
--- `pending::clear` meets its contract: by the queue that the frame names.
-use denote.Ref.{now}
+-- `pending::clear` meets its contract: answers first, then changes.
+use mathlib.Core.Option.{some}
 use borrow.Author.Needs.{needs}
-use Rattle.model.specs.Answers.{invalidParameter}
-use Rattle.stream.specs.declared.Target.the-variants.{Neither}
-use Rattle.stream.proofs.Steps.{failed}
-use Rattle.stream.proofs.Tested.{named}
-use Rattle.pending.proofs.Ends.{replied-as, clear-named, clear-unnamed}
+use Rattle.protocol.specs.Queue.{queueTypeOf}
+use Rattle.stream.proofs.Steps.{replied}
+use Rattle.pending.specs.Done.{clearAnswers, clearLeaves}
+use Rattle.pending.proofs.Ends.{clear-is}
 use Rattle.pending.proofs.stops.clear.Statement.{statement}
 use Rattle.pending.proofs.stops.clear.Tie as tie
 
-queue-type-requires : tie.Need-queue-type-requires
-queue-type-requires c κs = search needs
+clear-answers-requires : tie.Need-clear-answers-requires
+clear-answers-requires c κs = search needs
 
-queue-of-requires : tie.Need-queue-of-requires
-queue-of-requires c κs = search needs
-
-enum-known-target : tie.Need-enum-known-target
-enum-known-target c = search needs
-
-enum-told : tie.Need-enum-told
-enum-told c = search needs
-
-put-plain-requires : tie.Need-put-plain-requires
-put-plain-requires c κs = search needs
+clear-words-requires : tie.Need-clear-words-requires
+clear-words-requires c κs = search needs
 
 same-length : tie.Need-same-length
 same-length c = search needs
 
-returns : tie.Need-returns
-returns c b h =
-    let a = c .before .before .before .before .before .before .before .before .before .before .before .args in
-    failed (a .ticket) invalidParameter h
-    (clear-unnamed (a .stream) (a .ticket) (now (a .frame)) b (named _ Neither (c .before .before .before .before .before .before .queue-of .ensures) (c .before .before .before .before .before .before .before .queue-type .ensures) (c .before .before .before .before .enum-told .given .1)))
-    (c .before .before .put-plain .ensures)
-
-clear-queue-requires : tie.Need-clear-queue-requires
-clear-queue-requires c κs = search needs
-
 same-length-2 : tie.Need-same-length-2
 same-length-2 c = search needs
 
-same-length-3 : tie.Need-same-length-3
-same-length-3 c = search needs
-
-returns-2 : tie.Need-returns-2
-returns-2 c b h =
-    let a = c .before .before .before .before .before .before .before .before .before .before .before .before .before .before .before .args in
-    replied-as (clear-named (a .stream) (a .ticket) (now (a .frame)) b _ (named _ _ (c .before .before .before .before .before .before .before .before .before .before .queue-of .ensures) (c .before .before .before .before .before .before .before .before .before .before .before .queue-type .ensures) (c .before .before .before .before .before .before .before .before .target .given .1)))
-    (c .before .before .before .before .clear-queue .ensures b h)
+returns : tie.Need-returns
+returns c f b h =
+    let after-clear-words = c .before .before in let after-clear-answers = after-clear-words .before .before .before .before in
+    let start = after-clear-answers .before .before .before .before .before in
+    let a = start .args in
+    let q = queueTypeOf (a .q) in
+    replied (clearAnswers (a .stream) (a .ticket) q b) (some (clearLeaves q b)) (clear-is (a .stream) (a .ticket) f b q)
+    (after-clear-words .clear-words .ensures _ b h) (after-clear-answers .clear-answers .ensures _ b h)
 
 pub clear-spec : {M : Type 1} → statement M
 clear-spec =
     tie.close
-    (tie.spec
-    queue-type-requires
-    queue-of-requires
-    enum-known-target
-    enum-told
-    put-plain-requires
-    same-length
-    returns
-    clear-queue-requires
-    same-length-2
-    same-length-3
-    returns-2)
+    (tie.spec clear-answers-requires clear-words-requires same-length same-length-2 returns)
