@@ -4,49 +4,59 @@ use mathlib.Core.Bool.{true}
 use mathlib.Core.Option.{Option, none, some}
 use mathlib.Core.List.{List, [], _∷_}
 use Prim.Native.Nat.{ℕ, _+_, _*_, _-_, _<_}
-use lib.ListN.{length}
+use native.Mathlib.Nat.{add-sub-cancel-left}
+use lib.ListN.{length, take, set}
 use Rattle.laws.specs.Parts.{part, put}
 use Rattle.laws.specs.Lists.{allOf}
 use Rattle.laws.specs.Stores.{Wrote}
 use Rattle.laws.proofs.Tests.{and-right}
 use Rattle.laws.proofs.Lists.{all-getD}
 use Rattle.laws.proofs.Stores.{wrote-none}
-use Rattle.model.specs.Device.{Stream, Place, vacant, occupied, Device, recordOf, noPlace, place}
-use Rattle.model.specs.Device.{put as putStream}
+use Rattle.model.specs.Device.{Stream, Place, vacant, occupied, Device, recordOf, noPlace, place, withPlaces, putBack}
 use Rattle.model.specs.Answers.{ErrorCode, code, success, failure}
 use Rattle.model.specs.Replies.{Reply, refuse, reply, fail}
 use Rattle.model.specs.Commands.{Surroundings}
 use Rattle.model.specs.Steps.{Act, command, around, serve}
-use Rattle.model.specs.WellFormed.{goodStream, goodPlace, u32, distinctPlaces}
+use Rattle.model.specs.WellFormed.{goodStream, goodPlace, u32}
 use Rattle.model.proofs.Places.{put-self}
-use Rattle.model.proofs.WellFormed.{well-apart}
+use Rattle.model.proofs.WellFormed.{GoodPlaces, well-places}
 use Rattle.model.proofs.Refusals.{command-answers}
-use Rattle.table.specs.Blocks.{placeWords, encode}
+use Rattle.table.specs.Blocks.{placeWords, blocks, blocksSize, encode}
 use Rattle.table.specs.Search.{findStream, findVacant, sized}
-use Rattle.table.proofs.Theorems.{well-places, well-sized}
-use Rattle.table.proofs.Records.{place-read, place-lent}
+use Rattle.table.proofs.Theorems.{well-eight, well-sized}
+use Rattle.table.proofs.Records.{blocks-front, block-part, block-lent}
 use Rattle.table.proofs.Bridge.{LiveAt, stream-found, stream-missing, stream-put, VacantAt, vacant-found, vacant-missing, vacant-put}
-use Rattle.words.specs.Found.{foundAt, Within}
+use Rattle.words.specs.Found.{foundAt}
 use Rattle.words.specs.declared.Found.{Found}
 use Rattle.words.specs.declared.Found.the-variants.{At, Nothing}
 use Rattle.answer.specs.Answer.{answerTo, plainBytes}
 use Rattle.answer.proofs.Laws.{wrote-plain}
-use Rattle.stream.specs.Replied.{Holds, asked, Replied}
+use Rattle.stream.specs.Replied.{Holds, Live, asked, Replied}
 use Rattle.pending.specs.Done.{Done}
 use Rattle.steps.specs.Served.{Encodes, replyOf, Served}
 
 module _ {words : List ℕ} {d : Device} (h : Encodes words d) where
-  apart : distinctPlaces d ≡ true
-  apart = well-apart d (h .good)
+  good-places : GoodPlaces (d .places)
+  good-places = well-places d (h .good)
+
+  sizes : allOf sized (d .places) ≡ true
+  sizes = well-sized d (h .good)
+
+  eight : length (d .places) ≡ 8
+  eight = well-eight d (h .good)
+
+  -- the blocks are looked at
+  pub looked : {A : Type 0} (P : List Place → A) (r : A) → ((ps : List Place) → allOf sized ps ≡ true → take blocksSize words ≡ blocks ps → r ≡ P ps) → r ≡ P (d .places)
+  looked P r look = look (d .places) sizes (ap (take blocksSize) (h .held) ∙ blocks-front d sizes eight)
 
   -- The words stay
 
-  stays : (n : ℕ) → words ≡ encode (putStream n (recordOf n d) d)
-  stays n = h .held ∙ ap encode (sym (put-self n d apart))
+  stays : (n : ℕ) → words ≡ encode (putBack n (recordOf n (d .places)) d)
+  stays n = h .held ∙ ap (λ ps. encode (withPlaces ps d)) (sym (put-self n (d .places) (good-places .apart)))
 
   -- an error to a command
   pub failed : {room room′ : List ℕ} {written : ℕ} (n t : ℕ) (f : List ℕ) (e : ErrorCode)
-      → replyOf d n (command t f) ≡ fail (record { stream = n; ticket = t; frame = f; self = recordOf n d }) e
+      → replyOf d n (command t f) ≡ fail (record { stream = n; ticket = t; frame = f; self = recordOf n (d .places) }) e
       → Wrote room room′ 0 written (plainBytes t (code e) n) → Served d n (command t f) words room room′ 0 written
   failed n t f e is w = record {
     refused = sym (ap (λ (v : Reply). v .refusal) is);
@@ -55,7 +65,7 @@ module _ {words : List ℕ} {d : Device} (h : Encodes words d) where
   }
 
   -- a report that is refused with k
-  pub denied : (room : List ℕ) (n : ℕ) (a : Act) (k : ℕ) {refusal written : ℕ} → (refusal ≡ k) × (written ≡ 0) → replyOf d n a ≡ refuse k (recordOf n d)
+  pub denied : (room : List ℕ) (n : ℕ) (a : Act) (k : ℕ) {refusal written : ℕ} → (refusal ≡ k) × (written ≡ 0) → replyOf d n a ≡ refuse k (recordOf n (d .places))
       → Served d n a words room room refusal written
   denied room n a k told is = record {
     refused = told .0 ∙ sym (ap (λ (v : Reply). v .refusal) is);
@@ -65,38 +75,41 @@ module _ {words : List ℕ} {d : Device} (h : Encodes words d) where
 
   -- The block of a live stream is lent
 
-  module _ (long : length words ≡ 4096) (n k : ℕ) (k8 : k < 8) (found : findStream n d ≡ some k) where
-    at : LiveAt n k d
-    at = stream-found n d k found
+  module _ (n k : ℕ) (k8 : k < 8) (found : findStream n (d .places) ≡ some k) where
+    at : LiveAt n k (d .places)
+    at = stream-found n (d .places) k found
 
     good : goodStream (at .stream) ≡ true
-    good = and-right (u32 n) _ (subst (λ (p : Place). goodPlace p ≡ true) (at .at) (all-getD goodPlace d k vacant refl (well-places d (h .good))))
+    good = and-right (u32 n) _ (subst (λ (p : Place). goodPlace p ≡ true) (at .at) (all-getD goodPlace (d .places) k vacant refl (good-places .each)))
 
     holds : Holds n (part (512 * k) (512 * k + 512 - 512 * k) words) (at .stream)
-    holds = record { good = good; held = place-read words d k long k8 (well-sized d (h .good)) (h .held) ∙ ap placeWords (at .at) }
+    holds = record { good = good; held = rw (add-sub-cancel-left (512 * k) 512) (block-part d sizes eight words k k8 (h .held)) ∙ ap placeWords (at .at) }
+
+    pub block-live : Live n (part (512 * k) (512 * k + 512 - 512 * k) words)
+    block-live = record { stream = at .stream; holds = holds }
 
     pub in-block : {ys room room′ : List ℕ} {refusal written : ℕ} (a : Act)
-        → ((b : Stream) → Holds n (part (512 * k) (512 * k + 512 - 512 * k) words) b → Done n (serve (around d) n (some b) a) ys room room′ refusal written)
+        → ((b : Stream) → Holds n (part (512 * k) (512 * k + 512 - 512 * k) words) b → Done n (serve (around d n) n (some b) a) ys room room′ refusal written)
         → Served d n a (put (512 * k) (512 * k + 512 - 512 * k) words ys) room room′ refusal written
     in-block {ys} {room} {room′} {refusal} {written} a done =
         let b = at .stream in
         let x = done b holds in
-        subst (λ (o : Option Stream). Done n (serve (around d) n o a) ys room room′ refusal written → Served d n a (put (512 * k) (512 * k + 512 - 512 * k) words ys) room room′ refusal written)
+        subst (λ (o : Option Stream). Done n (serve (around d n) n o a) ys room room′ refusal written → Served d n a (put (512 * k) (512 * k + 512 - 512 * k) words ys) room room′ refusal written)
         (at .known)
         (λ y. record {
           refused = y .refused;
           words =
-              place-lent words d k long k8 (well-sized d (h .good)) (h .held) ys (place n (replyOf d n a .next)) (λ _. y .replied .words)
-              ∙ ap encode (sym (stream-put n k d at apart (replyOf d n a .next)));
+              block-lent d sizes eight words k k8 (h .held) ys (place n (replyOf d n a .next)) (λ _. y .replied .words)
+              ∙ ap (λ ps. encode (withPlaces ps d)) (sym (stream-put n k (d .places) at (good-places .apart) (replyOf d n a .next)));
           bytes = y .replied .bytes;
         })
         x
 
   -- A new stream is put into the lowest vacant place
 
-  module _ (long : length words ≡ 4096) (n k : ℕ) (k8 : k < 8) (new : recordOf n d ≡ none) (found : findVacant d ≡ some k) where
-    free : VacantAt k d
-    free = vacant-found d k found
+  module _ (n k : ℕ) (k8 : k < 8) (new : recordOf n (d .places) ≡ none) (found : findVacant (d .places) ≡ some k) where
+    free : VacantAt k (d .places)
+    free = vacant-found (d .places) k found
 
     pub in-vacant : {ys room room′ : List ℕ} {written : ℕ} (t : ℕ) (f : List ℕ) (b : Stream)
         → replyOf d n (command t f) ≡ reply (answerTo t n success ∷ []) (some b)
@@ -105,8 +118,8 @@ module _ {words : List ℕ} {d : Device} (h : Encodes words d) where
     in-vacant {ys} t f b is made w = record {
       refused = sym (ap (λ (v : Reply). v .refusal) is);
       words = rw is
-          (place-lent words d k long k8 (well-sized d (h .good)) (h .held) ys (occupied n b) (λ e. made (e ∙ ap placeWords (free .at)))
-          ∙ ap encode (sym (vacant-put n k b d free new)));
+          (block-lent d sizes eight words k k8 (h .held) ys (occupied n b) (λ e. made (e ∙ ap placeWords (free .at)))
+          ∙ ap (λ ps. encode (withPlaces ps d)) (sym (vacant-put n k b (d .places) free new)));
       bytes = rw is (wrote-plain t n 0x0200 success refl w);
     }
 
@@ -121,26 +134,25 @@ pub answered : {n : ℕ} {block room room′ : List ℕ} {written : ℕ} (around
 unfolding serve
 answered {n} around b t f x = record { refused = sym (command-answers around (asked n t f b)); replied = x }
 
--- a place that a search found is within its bound
-pub found-within : {r : Found} {k n : ℕ} → r ≡ At k → Within r n → k < n
-found-within e w = rw e at w
+-- a reply by another name
+pub replied-as : {n r : ℕ} {v v′ : Reply} {w room room′ : List ℕ} → v′ ≡ v → Replied n v w room room′ r → Replied n v′ w room room′ r
+replied-as {n} {r} {w = w} {room = room} {room′ = room′} is x = subst (λ v. Replied n v w room room′ r) (sym is) x
 
--- the device after the search of its streams
-module _ {words : List ℕ} {d : Device} (h : Encodes words d) {r : Found} {n : ℕ} (looked : (d : Device) → allOf sized d ≡ true → words ≡ encode d → foundAt r ≡ findStream n d) where
-  pub was-found : (k : ℕ) → r ≡ At k → findStream n d ≡ some k
-  was-found k e = sym (looked d (well-sized d (h .good)) (h .held)) ∙ ap foundAt e
+-- what a search of the places found
+module _ {words : List ℕ} {d : Device} (h : Encodes words d) {r : Found} where
+  module _ {n : ℕ} (look : (d : Device) → Encodes words d → foundAt r ≡ findStream n (d .places)) where
+    pub was-found : (k : ℕ) → r ≡ At k → findStream n (d .places) ≡ some k
+    was-found k e = sym (look d h) ∙ ap foundAt e
 
-  pub was-missing : r ≡ Nothing → recordOf n d ≡ none
-  was-missing e = stream-missing n d (sym (looked d (well-sized d (h .good)) (h .held)) ∙ ap foundAt e)
+    pub was-missing : r ≡ Nothing → recordOf n (d .places) ≡ none
+    was-missing e = stream-missing n (d .places) (sym (look d h) ∙ ap foundAt e)
 
-  pub was-live : (k : ℕ) → r ≡ At k → (b : Stream) × (recordOf n d ≡ some b)
-  was-live k e = let a = stream-found n d k (was-found k e) in (a .stream, a .known)
+    pub was-live : (k : ℕ) → r ≡ At k → (b : Stream) × (recordOf n (d .places) ≡ some b)
+    was-live k e = let a = stream-found n (d .places) k (was-found k e) in (a .stream, a .known)
 
--- and after the search for a vacant place
-module _ {words : List ℕ} {d : Device} (h : Encodes words d) where
-  module _ {r : Found} (looked : (d : Device) → allOf sized d ≡ true → words ≡ encode d → foundAt r ≡ findVacant d) where
-    pub was-vacant : (k : ℕ) → r ≡ At k → findVacant d ≡ some k
-    was-vacant k e = sym (looked d (well-sized d (h .good)) (h .held)) ∙ ap foundAt e
+  module _ (look : (d : Device) → Encodes words d → foundAt r ≡ findVacant (d .places)) where
+    pub was-vacant : (k : ℕ) → r ≡ At k → findVacant (d .places) ≡ some k
+    was-vacant k e = sym (look d h) ∙ ap foundAt e
 
-    pub was-full : r ≡ Nothing → noPlace d ≡ true
-    was-full e = vacant-missing d (sym (looked d (well-sized d (h .good)) (h .held)) ∙ ap foundAt e)
+    pub was-full : r ≡ Nothing → noPlace (d .places) ≡ true
+    was-full e = vacant-missing (d .places) (sym (look d h) ∙ ap foundAt e)

@@ -2,35 +2,38 @@
 use Prim.Native.Nat.{ℕ}
 use mathlib.Core.Path.{_≡_}
 use mathlib.Core.Bool.{true}
-use mathlib.Core.Option.{none}
 use mathlib.Core.List.{List}
 use lib.ListN.{length}
 use Rattle.laws.specs.Stores.{Wrote}
-use Rattle.model.specs.Device.{Device, recordOf, put}
+use Rattle.model.specs.Device.{Device, recordOf, putBack}
 use Rattle.model.specs.Frames.{commandOf, commandType}
 use Rattle.model.specs.Answers.{bytesOf}
 use Rattle.model.specs.Replies.{Reply}
 use Rattle.model.specs.Steps.{Act, around, serve}
 use Rattle.model.specs.WellFormed.{wellFormed}
 use Rattle.table.specs.Blocks.{encode}
-use Rattle.frame.specs.Meant.{errorOf}
+use Rattle.frame.specs.Meant.{Verdict, verdict}
 
 -- the words are those of the well-formed device d
 pub record Encodes (words : List ℕ) (d : Device) : Type 0 where
   pub good : wellFormed d ≡ true
   pub held : words ≡ encode d
 
+-- the words are those of some well-formed device
+pub record Good (words : List ℕ) : Type 0 where
+  pub device : Device
+  pub encodes : Encodes words device
+
 -- what the stream n of d replies to a step
 abbrev pub replyOf : Device → ℕ → Act → Reply
-replyOf d n a = serve (around d) n (recordOf n d) a
+replyOf d n a = serve (around d n) n (recordOf n (d .places)) a
 
 -- the step has its refusal number or 0, the reply's record is put back into the device, and its answers stand from the start of the room
 pub record Served (d : Device) (n : ℕ) (a : Act) (left room room′ : List ℕ) (refusal written : ℕ) : Type 0 where
   pub refused : refusal ≡ replyOf d n a .refusal
-  pub words : left ≡ encode (put n (replyOf d n a .next) d)
+  pub words : left ≡ encode (putBack n (replyOf d n a .next) d)
   pub bytes : Wrote room room′ 0 written (bytesOf (replyOf d n a .answers))
 
--- the frame is of a known type, and its length is one that its command may have
-pub record Known (kind : ℕ) (f : List ℕ) : Type 0 where
-  pub type : kind ≡ commandType f
-  pub long : errorOf (commandOf kind) (length f) ≡ none
+-- what the type and the length of a frame say
+abbrev pub told : List ℕ → Verdict
+told f = verdict (commandOf (commandType f)) (length f)

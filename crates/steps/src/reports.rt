@@ -2,14 +2,18 @@
 ghost use mathlib.Core.Path.{_≡_};
 ghost use Prim.Native.Nat.{_≤_};
 ghost use lib.ListN.{length};
+ghost use Rattle.model.specs.Numbers.{tableWords};
 ghost use Rattle.model.specs.Device.{Device};
 ghost use Rattle.model.specs.Steps.{finish, drained};
 ghost use Rattle.steps.specs.Served.{Encodes, Served};
-use pending::Outcome;
+use crate::places::live_place;
+use protocol::ALL_FLAGS;
+use protocol::BAD_FLAGS;
+use protocol::Outcome;
+use protocol::UNEXPECTED_REPORT;
+use protocol::refused;
+use table::PLACE_WORDS;
 use words::Found;
-
-// All the flags there are: ERR and EOS.
-const ALL_FLAGS: u32 = 3;
 
 // A finish report: the flags, then the stream.
 pub fn finish(
@@ -21,19 +25,19 @@ pub fn finish(
     timestamp: u64,
     room: &mut [u8],
 ) -> Outcome
-    requires { ⌜ (length (now t) ≡ 4096) × (1056 ≤ length (now room)) ⌝ }
+    requires { ⌜ (length (now t) ≡ tableWords) × (1056 ≤ length (now room)) ⌝ }
     ensures { λ r. ⌜ ((d : Device) → Encodes (now (t .entry)) d → Served d stream (finish stream queue resource flags timestamp) (now (t .exit)) (now (room .entry)) (now (room .exit)) (r .refusal) (r .written)) ⌝ }
 {
     if ALL_FLAGS < flags {
-        return refused(6);
+        return refused(BAD_FLAGS);
     }
-    let found = table::find_stream(t, stream);
+    let found = live_place(t, stream);
     let Found::At(k) = found else {
-        return refused(5);
+        return refused(UNEXPECTED_REPORT);
     };
-    let at = table::PLACE_WORDS * k;
+    let at = PLACE_WORDS * k;
     pending::finish(
-        &mut t[at..at + table::PLACE_WORDS],
+        &mut t[at..at + PLACE_WORDS],
         stream,
         queue,
         resource,
@@ -45,23 +49,13 @@ pub fn finish(
 
 // A drained report.
 pub fn drained(t: &mut [u32], stream: u32, room: &mut [u8]) -> Outcome
-    requires { ⌜ (length (now t) ≡ 4096) × (1056 ≤ length (now room)) ⌝ }
+    requires { ⌜ (length (now t) ≡ tableWords) × (1056 ≤ length (now room)) ⌝ }
     ensures { λ r. ⌜ ((d : Device) → Encodes (now (t .entry)) d → Served d stream (drained stream) (now (t .exit)) (now (room .entry)) (now (room .exit)) (r .refusal) (r .written)) ⌝ }
 {
-    let place = table::find_stream(t, stream);
-    let Found::At(k) = place else {
-        return refused(5);
+    let found = live_place(t, stream);
+    let Found::At(k) = found else {
+        return refused(UNEXPECTED_REPORT);
     };
-    let start = table::PLACE_WORDS * k;
-    pending::drained(&mut t[start..start + table::PLACE_WORDS], stream, room)
-}
-
-// A refusal: nothing is written.
-pub fn refused(number: u32) -> Outcome
-    ensures { λ r. ⌜ (r .refusal ≡ number) × (r .written ≡ 0) ⌝ }
-{
-    Outcome {
-        refusal: number,
-        written: 0,
-    }
+    let at = PLACE_WORDS * k;
+    pending::drained(&mut t[at..at + PLACE_WORDS], stream, room)
 }

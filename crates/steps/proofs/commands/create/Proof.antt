@@ -8,15 +8,16 @@ use Rattle.model.specs.Answers.{outOfMemory, invalidStream, invalidParameter}
 use Rattle.model.specs.Steps.{around}
 use Rattle.table.specs.Blocks.{placeWords}
 use Rattle.table.proofs.Bridge.{vacant-found}
-use Rattle.frame.proofs.Laws.{passed, refused}
+use Rattle.laws.proofs.Tests.{passed, refused}
 use Rattle.steps.proofs.Known.{create-live, create-bad, create-full, create-done}
-use Rattle.steps.proofs.Served.{failed, in-vacant, found-within, was-missing, was-live, was-vacant, was-full}
+use Rattle.words.proofs.Finds.{found-within}
+use Rattle.steps.proofs.Served.{failed, in-vacant, was-missing, was-live, was-vacant, was-full}
 use borrow.Author.Needs.{needs}
 use Rattle.steps.proofs.commands.create.Statement.{statement}
 use Rattle.steps.proofs.commands.create.Tie as tie
 
-find-stream-requires : tie.Need-find-stream-requires
-find-stream-requires c κs = search needs
+live-place-requires : tie.Need-live-place-requires
+live-place-requires c κs = search needs
 
 enum-told : tie.Need-enum-told
 enum-told c = search needs
@@ -36,10 +37,10 @@ same-length-2 c = search needs
 returns : tie.Need-returns
 returns c d h =
     let after-put-plain = c .before .before in let after-enum-told2 = after-put-plain .before .before in
-    let after-find-stream = after-enum-told2 .before .before in let start = after-find-stream .before .before .before .before .before in
-    let b = was-live h (after-find-stream .find-stream .ensures .1) _ (after-enum-told2 .enum-told2 .given .1) in
+    let after-live-place = after-enum-told2 .before .before in let start = after-live-place .before .before .before .before .before in
+    let b = was-live h (after-live-place .live-place .ensures .1) _ (after-enum-told2 .enum-told2 .given .1) in
     failed h (start .args .stream) (start .args .ticket) (start .args .frame .now) invalidStream
-    (create-live (start .pre .1) (around d) (start .args .stream) (start .args .ticket) _ (b .0) (b .1))
+    (create-live (start .args .frame .now) (around d (start .args .stream)) (start .args .stream) (start .args .ticket) _ (start .pre .1) (b .0) (b .1))
     (after-put-plain .put-plain .ensures)
 
 creation-good-requires : tie.Need-creation-good-requires
@@ -57,15 +58,16 @@ same-length-4 c = search needs
 returns-2 : tie.Need-returns-2
 returns-2 c d h =
     let after-put-plain2 = c .before .before in let then1 = after-put-plain2 .before .before in let after-creation-good = then1 .before in
-    let after-enum-told = after-creation-good .before in let after-find-stream = after-enum-told .before .before in
-    let start = after-find-stream .before .before .before .before .before in
+    let after-enum-told = after-creation-good .before in let after-live-place = after-enum-told .before .before in
+    let start = after-live-place .before .before .before .before .before in
     failed h (start .args .stream) (start .args .ticket) (start .args .frame .now) invalidParameter
-    (create-bad (start .pre .1) (around d) (start .args .stream) (start .args .ticket) _ (was-missing h (after-find-stream .find-stream .ensures .1) (after-enum-told .enum-told .given .1))
+    (create-bad (start .args .frame .now) (around d (start .args .stream)) (start .args .stream) (start .args .ticket) _ (start .pre .1)
+    (was-missing h (after-live-place .live-place .ensures .1) (after-enum-told .enum-told .given .1))
     (refused (after-creation-good .creation-good .ensures) (then1 .if1 .taken)))
     (after-put-plain2 .put-plain2 .ensures)
 
-find-vacant-requires : tie.Need-find-vacant-requires
-find-vacant-requires c κs = search needs
+vacant-place-requires : tie.Need-vacant-place-requires
+vacant-place-requires c κs = search needs
 
 enum-known-place : tie.Need-enum-known-place
 enum-known-place c = search needs
@@ -85,25 +87,26 @@ same-length-6 c = search needs
 returns-3 : tie.Need-returns-3
 returns-3 c d h =
     let after-put-plain3 = c .before .before in let after-enum-told3 = after-put-plain3 .before .before in
-    let after-find-vacant = after-enum-told3 .before .before in let else1 = after-find-vacant .before .before in let after-creation-good = else1 .before in
-    let after-enum-told = after-creation-good .before in let after-find-stream = after-enum-told .before .before in
-    let start = after-find-stream .before .before .before .before .before in
+    let after-vacant-place = after-enum-told3 .before .before in let else1 = after-vacant-place .before .before in let after-creation-good = else1 .before in
+    let after-enum-told = after-creation-good .before in let after-live-place = after-enum-told .before .before in
+    let start = after-live-place .before .before .before .before .before in
     failed h (start .args .stream) (start .args .ticket) (start .args .frame .now) outOfMemory
-    (create-full (start .pre .1) (around d) (start .args .stream) (start .args .ticket) _ (was-missing h (after-find-stream .find-stream .ensures .1) (after-enum-told .enum-told .given .1))
-    (passed (after-creation-good .creation-good .ensures) (else1 .if1 .left)) (was-full h (after-find-vacant .find-vacant .ensures .1) (after-enum-told3 .enum-told3 .given .1)))
+    (create-full (start .args .frame .now) (around d (start .args .stream)) (start .args .stream) (start .args .ticket) _ (start .pre .1)
+    (was-missing h (after-live-place .live-place .ensures .1) (after-enum-told .enum-told .given .1))
+    (passed (after-creation-good .creation-good .ensures) (else1 .if1 .left)) (was-full h (after-vacant-place .vacant-place .ensures .1) (after-enum-told3 .enum-told3 .given .1)))
     (after-put-plain3 .put-plain3 .ensures)
 
 mul-at : tie.Need-mul-at
-mul-at c = omega (arith, found-within (c .before .place .given .1) (c .before .before .before .find-vacant .ensures .0))
+mul-at c = omega (arith, found-within 8 (c .before .place .given .1) (c .before .before .before .vacant-place .ensures .0))
 
 coded-format-requires : tie.Need-coded-format-requires
 coded-format-requires c κs = search needs
 
 add-new-stream : tie.Need-add-new-stream
-add-new-stream c = omega (arith, found-within (c .before .before .place .given .1) (c .before .before .before .before .find-vacant .ensures .0))
+add-new-stream c = omega (arith, found-within 8 (c .before .before .place .given .1) (c .before .before .before .before .vacant-place .ensures .0))
 
 mul-new-stream : tie.Need-mul-new-stream
-mul-new-stream c = omega (arith, found-within (c .before .before .place .given .1) (c .before .before .before .before .find-vacant .ensures .0))
+mul-new-stream c = omega (arith, found-within 8 (c .before .before .place .given .1) (c .before .before .before .before .vacant-place .ensures .0))
 
 sub-new-stream : tie.Need-sub-new-stream
 sub-new-stream c = search needs
@@ -112,7 +115,7 @@ part-new-stream-start : tie.Need-part-new-stream-start
 part-new-stream-start c = search needs
 
 part-new-stream-end : tie.Need-part-new-stream-end
-part-new-stream-end c = omega (arith, found-within (c .before .before .place .given .1) (c .before .before .before .before .find-vacant .ensures .0))
+part-new-stream-end c = omega (arith, found-within 8 (c .before .before .place .given .1) (c .before .before .before .before .vacant-place .ensures .0))
 
 new-stream-requires : tie.Need-new-stream-requires
 new-stream-requires c κs = search needs
@@ -130,18 +133,18 @@ returns-4 : tie.Need-returns-4
 returns-4 c d h =
     let after-put-plain4 = c .before .before in let after-new-stream = after-put-plain4 .before .before .before .before in
     let after-coded-format = after-new-stream .before .before in let after-place = after-coded-format .before .before in
-    let after-find-vacant = after-place .before .before in let else1 = after-find-vacant .before .before in let after-creation-good = else1 .before in
-    let after-enum-told = after-creation-good .before in let after-find-stream = after-enum-told .before .before in
-    let start = after-find-stream .before .before .before .before .before in
+    let after-vacant-place = after-place .before .before in let else1 = after-vacant-place .before .before in let after-creation-good = else1 .before in
+    let after-enum-told = after-creation-good .before in let after-live-place = after-enum-told .before .before in
+    let start = after-live-place .before .before .before .before .before in
     let n = start .args .stream in
     let t = start .args .ticket in
     let f = start .args .frame .now in
     let e = after-place .place .given .1 in
-    let v = after-find-vacant .find-vacant .ensures in
-    let new = was-missing h (after-find-stream .find-stream .ensures .1) (after-enum-told .enum-told .given .1) in
+    let v = after-vacant-place .vacant-place .ensures in
+    let new = was-missing h (after-live-place .live-place .ensures .1) (after-enum-told .enum-told .given .1) in
     let place = was-vacant h (v .1) _ e in
-    in-vacant h (start .pre .0) n _ (found-within e (v .0)) new place t f (newStream (codedFormat f))
-    (create-done (start .pre .1) (around d) n t _ new (passed (after-creation-good .creation-good .ensures) (else1 .if1 .left)) (vacant-found d _ place .room))
+    in-vacant h n _ (found-within 8 e (v .0)) new place t f (newStream (codedFormat f))
+    (create-done (start .args .frame .now) (around d n) n t _ (start .pre .1) new (passed (after-creation-good .creation-good .ensures) (else1 .if1 .left)) (vacant-found (d .places) _ place .room))
     (λ x. after-new-stream .new-stream .ensures x ∙ ap (λ (m : ℕ). placeWords (occupied n (newStream m))) (after-coded-format .coded-format .ensures))
     (after-put-plain4 .put-plain4 .ensures)
 
@@ -149,7 +152,7 @@ pub create-spec : {M : Type 1} → statement M
 create-spec =
     tie.close
     (tie.spec
-    find-stream-requires
+    live-place-requires
     enum-told
     enum-told-2
     put-plain-requires
@@ -161,7 +164,7 @@ create-spec =
     same-length-3
     same-length-4
     returns-2
-    find-vacant-requires
+    vacant-place-requires
     enum-known-place
     enum-told-3
     put-plain-requires-3

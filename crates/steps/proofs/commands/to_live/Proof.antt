@@ -2,14 +2,16 @@
 use native.Mathlib.Omega.{arith}
 use Rattle.model.specs.Answers.{invalidStream}
 use Rattle.model.specs.Steps.{command, around}
-use Rattle.steps.proofs.Known.{not-live}
-use Rattle.steps.proofs.Served.{failed, in-block, found-within, was-found, was-missing, answered}
+use Rattle.steps.proofs.Known.{to-live, not-live}
+use Rattle.words.proofs.Finds.{found-within}
+use Rattle.frame.proofs.Checks.{right-length}
+use Rattle.steps.proofs.Served.{failed, block-live, in-block, was-found, was-missing, answered, replied-as}
 use borrow.Author.Needs.{needs}
 use Rattle.steps.proofs.commands.to_live.Statement.{statement}
 use Rattle.steps.proofs.commands.to_live.Tie as tie
 
-find-stream-requires : tie.Need-find-stream-requires
-find-stream-requires c κs = search needs
+live-place-requires : tie.Need-live-place-requires
+live-place-requires c κs = search needs
 
 enum-known-found : tie.Need-enum-known-found
 enum-known-found c = search needs
@@ -29,32 +31,52 @@ same-length-2 c = search needs
 returns : tie.Need-returns
 returns c d h =
     let after-put-plain = c .before .before in let after-enum-told = after-put-plain .before .before in
-    let after-find-stream = after-enum-told .before .before in let start = after-find-stream .before .before .before .before .before in
-    failed h (start .args .stream) (start .args .ticket) (start .args .frame .now) invalidStream
-    (not-live (start .pre .1) (start .pre .2) (around d) (start .args .stream) (start .args .ticket) _
-    (was-missing h (after-find-stream .find-stream .ensures .1) (after-enum-told .enum-told .given .1)))
+    let after-live-place = after-enum-told .before .before in let start = after-live-place .before .before .before .before .before in
+    let a = start .args in
+    failed h (a .stream) (a .ticket) (a .frame .now) invalidStream
+    (not-live (a .frame .now) (around d (a .stream)) (a .stream) (a .ticket) _ _ (start .pre .2)
+    (was-missing h (after-live-place .live-place .ensures .1) (after-enum-told .enum-told .given .1)))
     (after-put-plain .put-plain .ensures)
 
-mul-start : tie.Need-mul-start
-mul-start c = omega (arith, found-within (c .before .found .given .1) (c .before .before .before .find-stream .ensures .0))
+mul-at : tie.Need-mul-at
+mul-at c =
+    let after-found = c .before in let after-live-place = after-found .before .before in
+    omega (arith, found-within 8 (after-found .found .given .1) (after-live-place .live-place .ensures .0))
 
-add-live : tie.Need-add-live
-add-live c = omega (arith, found-within (c .before .found .given .1) (c .before .before .before .find-stream .ensures .0))
+add-in-block : tie.Need-add-in-block
+add-in-block c =
+    let after-found = c .before in let after-live-place = after-found .before .before in
+    omega (arith, found-within 8 (after-found .found .given .1) (after-live-place .live-place .ensures .0))
 
-mul-live : tie.Need-mul-live
-mul-live c = omega (arith, found-within (c .before .found .given .1) (c .before .before .before .find-stream .ensures .0))
+mul-in-block : tie.Need-mul-in-block
+mul-in-block c =
+    let after-found = c .before in let after-live-place = after-found .before .before in
+    omega (arith, found-within 8 (after-found .found .given .1) (after-live-place .live-place .ensures .0))
 
-sub-live : tie.Need-sub-live
-sub-live c = search needs
+sub-in-block : tie.Need-sub-in-block
+sub-in-block c = search needs
 
-part-live-start : tie.Need-part-live-start
-part-live-start c = search needs
+part-in-block-start : tie.Need-part-in-block-start
+part-in-block-start c = search needs
 
-part-live-end : tie.Need-part-live-end
-part-live-end c = omega (arith, found-within (c .before .found .given .1) (c .before .before .before .find-stream .ensures .0))
+part-in-block-end : tie.Need-part-in-block-end
+part-in-block-end c =
+    let after-found = c .before in let after-live-place = after-found .before .before in
+    omega (arith, found-within 8 (after-found .found .given .1) (after-live-place .live-place .ensures .0))
 
-live-requires : tie.Need-live-requires
-live-requires c κs = search needs
+in-block-requires : tie.Need-in-block-requires
+in-block-requires c κs =
+    let after-found = c .before .before .before in let after-live-place = after-found .before .before in
+    let start = after-live-place .before .before .before .before .before in
+    let a = start .args in
+    let e = after-found .found .given .1 in
+    let s = after-live-place .live-place .ensures in
+    let g = start .pre .1 .encodes in (
+      search needs,
+      block-live g (a .stream) _ (found-within 8 e (s .0)) (was-found g (s .1) _ e),
+      right-length _ _ _ (start .pre .2),
+      search needs,
+    )
 
 same-length-3 : tie.Need-same-length-3
 same-length-3 c = search needs
@@ -64,31 +86,33 @@ same-length-4 c = search needs
 
 returns-2 : tie.Need-returns-2
 returns-2 c d h =
-    let after-live = c .before .before .before .before in let after-found = after-live .before .before .before .before in
-    let after-find-stream = after-found .before .before in let start = after-find-stream .before .before .before .before .before in
-    let s = after-find-stream .find-stream .ensures in
+    let after-in-block = c .before .before .before .before in let after-found = after-in-block .before .before .before .before in
+    let after-live-place = after-found .before .before in let start = after-live-place .before .before .before .before .before in
+    let a = start .args in
     let e = after-found .found .given .1 in
-    in-block h (start .pre .0) (start .args .stream) _ (found-within e (s .0)) (was-found h (s .1) _ e) (command (start .args .ticket) (start .args .frame .now))
-    (λ b x. answered (around d) b (start .args .ticket) (start .args .frame .now) (after-live .live .ensures (around d) b x))
+    let s = after-live-place .live-place .ensures in
+    in-block h (a .stream) _ (found-within 8 e (s .0)) (was-found h (s .1) _ e) (command (a .ticket) (a .frame .now))
+    (λ b x. answered (around d (a .stream)) b (a .ticket) (a .frame .now)
+    (replied-as (to-live (a .frame .now) (around d (a .stream)) (a .stream) (a .ticket) _ b (start .pre .2)) (after-in-block .in-block .ensures b x)))
 
 pub to-live-spec : {M : Type 1} → statement M
 to-live-spec =
     tie.close
     (tie.spec
-    find-stream-requires
+    live-place-requires
     enum-known-found
     enum-told
     put-plain-requires
     same-length
     same-length-2
     returns
-    mul-start
-    add-live
-    mul-live
-    sub-live
-    part-live-start
-    part-live-end
-    live-requires
+    mul-at
+    add-in-block
+    mul-in-block
+    sub-in-block
+    part-in-block-start
+    part-in-block-end
+    in-block-requires
     same-length-3
     same-length-4
     returns-2)
