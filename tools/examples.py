@@ -311,8 +311,13 @@ def edges():
         log.command(f"0x{kind:04x} of {length} bytes", header(kind, 6, length), bad)
     for kind, length in (0x010A, 16), (0x010B, 16), (0x010C, 16), (0x010C, 17):
         log.command(f"0x{kind:04x} of {length} bytes", header(kind, 6, length), error(0x0305))
-    for kind in 0x0100, 0x010D, 0x00010108:
+    for kind in 0x0100, 0x010D, 0x00010108, 0, 0x00FF, 0x0200, 2**32 - 1:
         log.command(f"type 0x{kind:08x}", header(kind, 6, 16), error(0x0300))
+
+    log.command("digits 0, 9, a and f", destroy(9), error(0x0302), ticket=0x90AF09FA)
+    log.command("digits 0, 9, A and F", destroy(9), error(0x0302), ticket=0x90AF09FA, change=str.upper)
+    for byte in b"/:@G`g":
+        log.drained(f"byte {byte} for a digit", 6, refused(7), change=lambda digits: digits[:-1] + chr(byte))
     return log
 
 

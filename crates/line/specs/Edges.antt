@@ -1,4 +1,4 @@
--- Lines on both sides of each edge, and what each of them stands for.
+-- Lines on both sides of some edges, and what each of them stands for. The other edges are run (examples/lines.log, examples/edges.log).
 use mathlib.Core.Path.{_≡_}
 use mathlib.Core.List.{List, [], _∷_, _++_, map}
 use Prim.Native.Nat.{ℕ, _+_, _*_, _-_}
@@ -25,35 +25,19 @@ ending h l = 48 ∷ 50 ∷ (replicate 6 48 ++ h ∷ l ∷ [])
 
 abbrev pub cases : List Case
 cases =
-    -- the lengths of each kind, and a kind that there is not
+    -- the lengths of each kind
     ofKind 0 4 means noFrame
     ∷ ofKind 0 5 means step (command 0 [])
     ∷ ofKind 0 4189 means step (command 0 (replicate 4184 0))
     ∷ ofKind 0 4190 means noFrame
     ∷ ofKind 1 24 means noFrame
     ∷ ofKind 1 25 means step (finish 0 0 0 0 0)
-    ∷ ofKind 1 26 means noFrame
-    ∷ ofKind 2 4 means noFrame
     ∷ ofKind 2 5 means step (drained 0)
     ∷ ofKind 2 6 means noFrame
-    ∷ ofKind 3 5 means noFrame
-    -- no digit, and one too many
-    ∷ [] means noFrame
+    -- a digit too many, and digits of either case
     ∷ (48 ∷ ofKind 2 5) means noFrame
-    -- the first and the last of the digits of each case, and the bytes before and behind them
-    ∷ ending 48 57 means step (drained 0x09000000)
     ∷ ending 65 70 means step (drained 0xaf000000)
     ∷ ending 97 102 means step (drained 0xaf000000)
-    ∷ ending 48 47 means noFrame
-    ∷ ending 48 58 means noFrame
-    ∷ ending 64 48 means noFrame
-    ∷ ending 71 48 means noFrame
-    ∷ ending 48 96 means noFrame
-    ∷ ending 48 103 means noFrame
-    -- blanks, and carriage returns
-    ∷ (32 ∷ 32 ∷ ofKind 2 5) means noFrame
-    ∷ (ofKind 2 5 ++ 13 ∷ []) means noFrame
-    ∷ ending 48 13 means noFrame
     ∷ []
 
 abbrev pub Edges : Type 0

@@ -1,4 +1,4 @@
--- What holds of lines and of logs. Each statement is proved in proofs/, `ShowsEntries` and the examples over every layout that meets the two laws;
+-- What holds of lines and of logs. Each statement is proved in proofs/, `ShowsEntries` and the example over every layout that meets the two laws;
 -- crates/replay closes them over this device's.
 use Prim.Native.Nat.{ℕ, _≤_, _<_}
 use mathlib.Core.Path.{_≡_}

@@ -1,4 +1,4 @@
-pub mod TenCases
+pub mod Computed
 pub mod Slots
 pub mod Walk
 pub mod Lines

@@ -1,15 +1,18 @@
--- How a case is checked on the definitions, and the ten cases of document 01 that are to be.
+-- How a case is checked on the definitions, the ten cases of document 01 that are to be, and some lines on what no run shows.
 use Prim.Native.Nat.{ℕ}
-use mathlib.Core.Bool.{Bool, true, _&&_}
+use mathlib.Core.Bool.{Bool, true, false, _&&_}
+use mathlib.Core.Option.{some}
 use mathlib.Core.List.{List, [], _∷_, _++_, map}
 use mathlib.Core.Path.{_≡_}
 use lib.ListN.{replicate, take}
 use lib.Dec.{eqb}
 use Rattle.laws.specs.Lists.{allOf, same}
 use Rattle.model.specs.Numbers.{answerRoom}
-use Rattle.model.specs.Device.{Device, fresh}
+use Rattle.model.specs.Device.{output, created, Slot, free, resource, Device, fresh, newQueue, newStream, withQueue, withSlots, recordOf, putBack}
 use Rattle.model.specs.Answers.{words, bytesOf}
-use Rattle.model.specs.Steps.{Act, command, finish, Step, Outcome, step, final}
+use Rattle.model.specs.Steps.{Act, command, finish, drained, Step, Outcome, step, Entry, entryOf, entriesOf, final, isError, accepted, belongs, outOfMemoryAt}
+use Rattle.model.specs.Ledger.{fed, toBuffer, toDrain, Ledger, ledgerOf, expectedTickets, owed, owedIn}
+use Rattle.model.specs.WellFormed.{wellFormed, goodAct}
 
 infix 80 _refused_ _gives_
 -- a step, its refusal number or 0, and the bytes that it writes, in words
@@ -49,9 +52,13 @@ allAgree d (l ∷ ls) =
     let o : Outcome = step d (roomy (l .act)) in
     agrees l o && allAgree (o .device) ls
 
+-- the device after these steps on a fresh one
+abbrev pub deviceAfter : List Act → Device
+deviceAfter l = final fresh (map roomy l)
+
 -- the definitions give those outcomes
 abbrev pub passes : Case → Bool
-passes c = allAgree (final fresh (map roomy (c .before))) (c .lines)
+passes c = allAgree (deviceAfter (c .before)) (c .lines)
 
 -- a command of 32-bit words
 abbrev pub ask : ℕ → List ℕ → Act
@@ -59,9 +66,12 @@ ask t ws = command t (words ws)
 
 -- The frames of the cases, all to stream 7
 
--- its creation with format 0x1000 and an empty tag
+-- its creation with format 0x1000 and an empty tag, and that of another number
+abbrev pub creatingStream : ℕ → Act
+creatingStream n = ask 1 (0x0101 ∷ n ∷ 0 ∷ 0 ∷ 0x1000 ∷ 0 ∷ replicate 16 0)
+
 abbrev pub creating : Act
-creating = ask 1 (0x0101 ∷ 7 ∷ 0 ∷ 0 ∷ 0x1000 ∷ 0 ∷ replicate 16 0)
+creating = creatingStream 7
 
 -- a resource with one entry of one byte
 abbrev pub makingResource : ℕ → ℕ → Act
@@ -138,3 +148,56 @@ tenCases =
 -- all of them pass
 abbrev pub TenCases : Type 0
 TenCases = allOf passes tenCases ≡ true
+
+-- What no run shows: only condition 3 asks whose step it is, what is accepted or 'out of memory', what is pending, and which lists there
+-- are; and no words of a table stand for a queue of fifteen slots or for a number above 32 bits
+
+-- a step after others, with what the host gets back
+abbrev pub entryAfter : List Act → Act → Entry
+entryAfter b a = entryOf (roomy a) (step (deviceAfter b) (roomy a))
+
+-- the ledger after these steps
+abbrev pub ledgerLeft : List Act → Ledger
+ledgerLeft l = ledgerOf (entriesOf fresh (map roomy l))
+
+-- resource 9 of both queues Queued and a drain owed, by the steps 3, 4 and 6; step 5, a second queueing, gets an error
+abbrev pub allPending : List Act
+allPending = both ++ queueing 30 0x101 9 78 1 ∷ queueing 20 0x100 9 77 1 ∷ queueing 21 0x100 9 79 1 ∷ draining 40 ∷ []
+
+-- the same, and step 7 clears the output
+abbrev pub outputCleared : List Act
+outputCleared = allPending ++ clearing 8 0x101 ∷ []
+
+-- a device with one stream, whose outputs are these
+abbrev pub withOutputs : List Slot → Device
+withOutputs s = putBack 7 (some (withQueue output (withSlots s newQueue) (newStream 0x1000))) fresh
+
+pub record MoreCases : Type 0 where
+  -- a command of an unknown type, and a report that is refused, belong to the number in them; a command of 7 bytes belongs to none
+  pub owners : map (belongs 7) (
+      entryAfter [] (ask 5 (0x0100 ∷ 7 ∷ []))
+      ∷ entryAfter [] (drained 7)
+      ∷ entryAfter [] (command 5 (take 7 (words (0x0103 ∷ 7 ∷ []))))
+      ∷ [])
+      ≡ true ∷ true ∷ false ∷ []
+  -- a finish with the flag ERR is accepted, an unsupported control is not
+  pub accepts : map accepted (entryAfter allPending (finish 7 0x100 9 1 0) ∷ entryAfter allPending (ask 5 (0x010A ∷ 7 ∷ 0 ∷ 0 ∷ [])) ∷ []) ≡ true ∷ false ∷ []
+  -- error answers end at 0x0305
+  pub last-error : isError (record { ticket = 5; response = words (0x0306 ∷ 7 ∷ []) }) ≡ false
+  -- 0x0301 to a ninth creation is 'out of memory', to a seventeenth resource it is not
+  pub out-of-memory : map outOfMemoryAt (
+      entryAfter (map creatingStream (0 ∷ 1 ∷ 2 ∷ 3 ∷ 4 ∷ 5 ∷ 6 ∷ 8 ∷ [])) creating
+      ∷ entryAfter (creating ∷ map (makingResource 0x100) (0 ∷ 1 ∷ 2 ∷ 3 ∷ 4 ∷ 5 ∷ 6 ∷ 7 ∷ 8 ∷ 9 ∷ 10 ∷ 11 ∷ 12 ∷ 13 ∷ 14 ∷ 15 ∷ [])) (makingResource 0x100 16)
+      ∷ [])
+      ≡ true ∷ false ∷ []
+  -- an accepted queueing or drain is pending under its step number, another is not, and an output clear pays no drain
+  pub left-pending : ledgerLeft outputCleared
+      ≡ record { step = 6; ticket = 40; stream = 7; awaited = toDrain } ∷ record { step = 4; ticket = 20; stream = 7; awaited = toBuffer 0x100 9 77 } ∷ []
+  -- the record owes the same
+  pub record-owes : owedIn (recordOf 7 (deviceAfter outputCleared .places)) ≡ owed 20 (toBuffer 0x100 9 77) ∷ owed 40 toDrain ∷ []
+  -- a destruction pays the input, the output, the drain, and then answers itself
+  pub paid-in-order : expectedTickets (fed 7 (ask 5 (0x0102 ∷ 7 ∷ [])) true true) (ledgerLeft allPending) ≡ 20 ∷ 30 ∷ 40 ∷ 5 ∷ []
+  -- a queue has sixteen slots, and a resource number fits its word
+  pub record-rules : map (λ (s : List Slot). wellFormed (withOutputs s)) (replicate 15 free ∷ (resource 0x100000000 created ∷ replicate 15 free) ∷ []) ≡ false ∷ false ∷ []
+  -- the lists of condition 3 have finishes of any numbers in the host's types
+  pub every-step : goodAct (finish 0xFFFFFFFF 0xFFFFFFFF 0xFFFFFFFF 0xFFFFFFFF 0xFFFFFFFFFFFFFFFF) ≡ true

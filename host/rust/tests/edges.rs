@@ -5,7 +5,7 @@ mod independent;
 
 use independent::device::*;
 use independent::frames::*;
-use independent::layout::{BLOCK, WORDS};
+use independent::layout::{BLOCK, INPUT_AT, OUTPUT_AT, WORDS};
 use independent::on_words::{Core, OnWords, Outcome};
 use independent::UnderTest;
 
@@ -118,6 +118,11 @@ fn parameters(ticket: u32, stream: u32, first: &[u32]) -> Answered {
     Ok(vec![(ticket, response)])
 }
 
+/// The stream number in a frame.
+fn stream_of(frame: &[u8]) -> u32 {
+    u32::from_le_bytes(frame[4..8].try_into().expect("a header"))
+}
+
 fn buffer(ticket: u32, stream: u32, timestamp: u64, flags: u32) -> (u32, Vec<u32>) {
     (ticket, vec![0x0200, stream, timestamp as u32, (timestamp >> 32) as u32, flags, 0])
 }
@@ -164,6 +169,93 @@ cases! {
         assert_eq!(host.command(2, &stream_create(7, 0, &[0xff; 64])), error(2, 0x0302, 7));
     }
 
+    /// Each command one byte short, one byte long, and of its length.
+    fn length_of_each_command(host: with_stream) {
+        host.resource(INPUT, 1);
+        let output = [0x101, 3, 640, 480, 1, 16, 0, 0, 640, 480, 0, 2, 307_200, 640, 153_600, 640];
+        let entries = [(0, 1); 2];
+        for (good, answer) in [
+            (stream_create(2, MPEG2, b""), ok(3, 2)),
+            (frame(STREAM_DESTROY, 2, 8), ok(3, 2)),
+            (frame(STREAM_DRAIN, 7, 8), Ok(vec![])),
+            (resource_create(7, OUTPUT, 1, &[1], &entries[..1]), ok(3, 7)),
+            (resource_create(7, OUTPUT, 2, &[2], &entries), ok(3, 7)),
+            (resource_queue(7, OUTPUT, 1, 0, 0), Ok(vec![])),
+            (on_queue(RESOURCE_DESTROY_ALL, 7, INPUT), ok(3, 7)),
+            (on_queue(QUEUE_CLEAR, 7, OUTPUT), Ok(vec![buffer(3, 7, 0, 1), (3, vec![0x0200, 7])])),
+            (on_queue(GET_PARAMS, 7, OUTPUT), parameters(3, 7, &output)),
+            (set_params(7, OUTPUT, 3, 640, 480, 0), ok(3, 7)),
+            (frame(QUERY_CONTROL, 7, 16), error(3, 0x0305, 7)),
+            (frame(GET_CONTROL, 7, 16), error(3, 0x0305, 7)),
+        ] {
+            let wrong = error(3, 0x0304, stream_of(&good));
+            let short = &good[..good.len() - 1];
+            let refused = if short.len() < 8 { Err(4) } else { wrong.clone() };
+            assert_eq!(host.command(3, short), refused);
+            assert_eq!(host.command(3, &[&good[..], &[0]].concat()), wrong);
+            assert_eq!(host.command(3, &good), answer);
+        }
+        for (length, code) in [(15, 0x0304), (16, 0x0305), (17, 0x0305)] {
+            assert_eq!(host.command(3, &frame(SET_CONTROL, 7, length)), error(3, code, 7));
+        }
+    }
+
+    /// A good frame is bad where the highest byte of a field is another.
+    fn fields_are_read_whole(host: with_stream) {
+        host.resource(INPUT, 9);
+        let create = stream_create(1, MPEG2, b"");
+        let resource = resource_create(7, INPUT, 1, &[1], &[(0, 1)]);
+        let queue = resource_queue(7, INPUT, 9, 0, 8);
+        let set = set_params(7, OUTPUT, 3, 16, 16, 0);
+        for (good, fields, answer) in [
+            (create, &[(0, 0x0300), (8, 0x0304), (12, 0x0304), (16, 0x0304)][..], ok(3, 1)),
+            (resource, &[(4, 0x0302), (8, 0x0304), (16, 0x0304), (20, 0x0304), (56, 0x0304)], ok(3, 7)),
+            (queue, &[(4, 0x0302), (8, 0x0304), (12, 0x0303), (24, 0x0304)], Ok(vec![])),
+            (set, &[(4, 0x0302), (8, 0x0304), (12, 0x0304), (16, 0x0304), (20, 0x0304)], ok(3, 7)),
+        ] {
+            for &(at, code) in fields {
+                let mut other = good.clone();
+                other[at + 3] = 1;
+                assert_eq!(host.command(3, &other), error(3, code, stream_of(&other)));
+            }
+            assert_eq!(host.command(3, &good), answer);
+        }
+    }
+
+    /// Padding, plane offsets, counts behind the planes, sizes, and what a set derives may be anything.
+    fn fields_not_looked_at(host: new) {
+        let output = [0x101, 3, 18, 4094, 1, 16, 0, 0, 18, 4094, 5, 2, 73_692, 18, 36_846, 18];
+        for (good, ignored, answer) in [
+            (stream_create(7, H264, b""), &[20..24, 25..88][..], ok(3, 7)),
+            (resource_create(7, INPUT, 1, &[1], &[(0, 1)]), &[24..56, 60..88, 100..104], ok(3, 7)),
+            (resource_queue(7, INPUT, 1, 0, 0), &[28..64], Ok(vec![])),
+            (on_queue(RESOURCE_DESTROY_ALL, 7, OUTPUT), &[12..16], ok(3, 7)),
+            (on_queue(QUEUE_CLEAR, 7, OUTPUT), &[12..16], ok(3, 7)),
+            (set_params(7, OUTPUT, 3, 18, 4094, 5), &[24..48, 52..120], ok(3, 7)),
+            (on_queue(GET_PARAMS, 7, OUTPUT), &[12..16], parameters(3, 7, &output)),
+        ] {
+            let mut filled = good;
+            for part in ignored {
+                filled[part.clone()].fill(0xff);
+            }
+            assert_eq!(host.command(3, &filled), answer);
+        }
+    }
+
+    /// 0 is a stream, a resource, a ticket and a timestamp like any other.
+    fn zero_is_a_number(host: new) {
+        assert_eq!(host.command(0, &stream_create(0, MPEG2, b"")), ok(0, 0));
+        assert_eq!(host.command(0, &resource_create(0, INPUT, 0, &[1], &[(0, 1)])), ok(0, 0));
+        let queue = resource_queue(0, INPUT, 0, 0, 0);
+        assert_eq!(host.command(0, &queue), Ok(vec![]));
+        assert_eq!(host.command(1, &queue), error(1, 0x0300, 0));
+        assert_eq!(host.command(0, &frame(STREAM_DRAIN, 0, 8)), Ok(vec![]));
+        assert_eq!(host.command(1, &frame(STREAM_DRAIN, 0, 8)), error(1, 0x0300, 0));
+        assert_eq!(host.finish(0, INPUT, 0, 0, 9), Ok(vec![buffer(0, 0, 0, 0)]));
+        assert_eq!(host.drained(0), ok(0, 0));
+        assert_eq!(host.drained(0), Err(5));
+    }
+
     fn ninth_stream(host: with_stream) {
         for number in 0..7 {
             assert_eq!(host.command(9, &stream_create(number, MPEG2, b"")), ok(9, number));
@@ -186,6 +278,8 @@ cases! {
         let present = resource_create(7, INPUT, 15, &[1], &[(0, 1)]);
         assert_eq!(host.command(3, &present), error(3, 0x0303, 7));
         host.resource(OUTPUT, 16);
+        assert_eq!(host.command(3, &on_queue(RESOURCE_DESTROY_ALL, 7, INPUT)), ok(3, 7));
+        assert_eq!(host.command(3, &seventeenth), ok(3, 7));
     }
 
     fn size_count_8_and_9(host: with_stream) {
@@ -211,6 +305,21 @@ cases! {
         assert_eq!(host.command(3, &single), ok(3, 7));
     }
 
+    /// The count of the last plane is added, that of the next one is not.
+    fn entry_counts_by_plane(host: with_stream) {
+        for planes in 1..=8 {
+            let mut counts = vec![0; planes];
+            if planes < 8 {
+                let mut behind = resource_create(7, INPUT, 9, &counts, &[(0, 1)]);
+                put(&mut behind, 56 + 4 * planes, 1);
+                assert_eq!(host.command(3, &behind), error(3, 0x0304, 7));
+            }
+            counts[planes - 1] = 1;
+            let last = resource_create(7, INPUT, planes as u32, &counts, &[(0, 1)]);
+            assert_eq!(host.command(3, &last), ok(3, 7));
+        }
+    }
+
     fn entry_ending_at_2_to_64_and_one_past(host: with_stream) {
         let create = |number, address, length| {
             resource_create(7, INPUT, number, &[1], &[(address, length)])
@@ -219,6 +328,11 @@ cases! {
         assert_eq!(host.command(3, &create(2, u64::MAX - 0xffe, 0x1000)), error(3, 0x0304, 7));
         assert_eq!(host.command(3, &create(2, u64::MAX, 1)), ok(3, 7));
         assert_eq!(host.command(3, &create(3, 0, 0)), error(3, 0x0304, 7));
+        // The last of many entries is looked at too.
+        let mut entries = [(0, 1); 256];
+        entries[255] = (u64::MAX, 2);
+        let last = resource_create(7, INPUT, 3, &[256], &entries);
+        assert_eq!(host.command(3, &last), error(3, 0x0304, 7));
     }
 
     fn defaults(host: with_stream) {
@@ -243,6 +357,27 @@ cases! {
         host.queue(4, INPUT, 1, 0);
         assert_eq!(host.command(3, &set_params(7, INPUT, H264, 64, 64, 0)), error(3, 0x0300, 7));
         assert_eq!(host.command(3, &set(3, 64, 64)), ok(3, 7));
+    }
+
+    fn formats_and_extents_of_a_set(host: with_stream) {
+        for (queue_type, format, others) in
+            [(INPUT, H264, [3, 0x0fff, MPEG2, 0x1003]), (OUTPUT, 3, [2, 4, MPEG2, H264])]
+        {
+            let mut set = |format, width, height| {
+                host.command(3, &set_params(7, queue_type, format, width, height, 0))
+            };
+            for other in others {
+                assert_eq!(set(other, 640, 480), error(3, 0x0304, 7));
+            }
+            for bad in [0, 14, 15, 17, 4095, 4097, 4098] {
+                assert_eq!(set(format, bad, 480), error(3, 0x0304, 7));
+                assert_eq!(set(format, 640, bad), error(3, 0x0304, 7));
+            }
+            for good in [16, 18, 4094, 4096] {
+                assert_eq!(set(format, good, 480), ok(3, 7));
+                assert_eq!(set(format, 640, good), ok(3, 7));
+            }
+        }
     }
 
     fn tag_of_63_letters_and_of_64(host: with_stream) {
@@ -303,6 +438,39 @@ cases! {
         assert_eq!(host.command(0xbb, &resource_queue(7, OUTPUT, 1, 7, 0)), error(0xbb, 0x0300, 7));
         let stopped = Ok(vec![buffer(0xaa, 7, 6, 1), (0xcc, vec![0x0200, 7])]);
         assert_eq!(host.command(0xcc, &on_queue(QUEUE_CLEAR, 7, OUTPUT)), stopped);
+    }
+
+    /// A lent table may carry clear marks: one refuses a queueing on its queue, and only a clear of
+    /// that queue drops it.
+    fn clear_marks_of_a_lent_table(host: with_stream) {
+        for (number, marked, mark, other) in
+            [(1, INPUT, INPUT_AT, OUTPUT), (2, OUTPUT, OUTPUT_AT, INPUT)]
+        {
+            host.resource(marked, number);
+            host.resource(other, number);
+            host.table[mark] = 1;
+            let queue = resource_queue(7, marked, number, 0, 0);
+            assert_eq!(host.command(3, &queue), error(3, 0x0300, 7));
+            assert_eq!(host.command(3, &resource_queue(7, marked, 9, 0, 0)), error(3, 0x0300, 7));
+            assert_eq!(
+                host.command(3, &resource_queue(7, marked, number, 0, 9)),
+                error(3, 0x0304, 7)
+            );
+            host.queue(4, other, number, 0);
+            assert_eq!(host.finish(7, other, number, 0, 0), Ok(vec![buffer(4, 7, 0, 0)]));
+            host.drain(5);
+            assert_eq!(host.drained(7), ok(5, 7));
+            let format = if marked == INPUT { H264 } else { 3 };
+            assert_eq!(host.command(3, &set_params(7, marked, format, 16, 16, 0)), ok(3, 7));
+            assert_eq!(host.command(3, &on_queue(QUEUE_CLEAR, 7, other)), ok(3, 7));
+            assert_eq!(host.command(3, &on_queue(RESOURCE_DESTROY_ALL, 7, marked)), ok(3, 7));
+            host.resource(marked, number);
+            assert_eq!(host.command(3, &queue), error(3, 0x0300, 7));
+            assert_eq!(host.command(3, &on_queue(QUEUE_CLEAR, 7, marked)), ok(3, 7));
+            assert_eq!(host.table[mark], 0);
+            host.queue(6, marked, number, 0);
+            assert_eq!(host.finish(7, marked, number, 0, 0), Ok(vec![buffer(6, 7, 0, 0)]));
+        }
     }
 
     fn flags_of_a_finish(host: with_stream) {
@@ -368,6 +536,12 @@ cases! {
         assert_eq!(refusal(table, &mut room), 2);
         assert_eq!(refusal(table, &mut room[..ROOM - 1]), 3);
         assert_eq!(refusal(&mut table[..WORDS - 1], &mut room[..ROOM - 1]), 1);
+        // A room is asked for also where little or nothing would be written.
+        table[5] = 0;
+        let report = Report { stream: 7, queue_type: INPUT, resource: 1, flags: 4, timestamp: 0 };
+        assert_eq!(host.core.finish(table, &report, &mut room[..ROOM - 1]).refusal, 3);
+        assert_eq!(host.core.drained(table, 7, &mut []).refusal, 3);
+        table[5] = 1;
         assert_eq!(host.core.fresh(&mut table[..WORDS - 1]), 1);
         assert_eq!(table[5], 1);
     }
