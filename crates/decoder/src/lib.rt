@@ -1,16 +1,14 @@
 // The command core of a virtio-video decoder, for a host that links it: four entries, safe on any bytes and words. Each states its whole
-// outcome by one equation to the model: `freshen` and `effect` of crates/model/specs/Tables, over the layout of crates/table/specs/Layout.
+// outcome by one equation to the model: `freshen` and `effect` of crates/model/specs/Tables, over the layout of crates/table/specs/Blocks.
 ghost use mathlib.Core.Path.{_≡_};
 ghost use Rattle.model.specs.Steps.{command, finish, drained};
 ghost use Rattle.model.specs.Tables.{freshen, effect};
 ghost use Rattle.table.specs.Blocks.{layout};
 ghost use Rattle.table.specs.Values.{freshened};
-ghost use Rattle.decoder.specs.Entry.{asEffect};
-use pending::Outcome;
+ghost use Rattle.entry.specs.Entry.{asEffect};
+use protocol::Outcome;
 
-mod entry;
-
-// Makes a table fresh: the first 4,096 words are those of no stream.
+// Makes a table fresh: the used words are those of no stream.
 #[no_mangle]
 pub extern "C" fn virtio_video_fresh(table: &mut [u32]) -> u32
     ensures { λ r. ⌜ freshened r (now (table .exit)) ≡ freshen layout (now (table .entry)) ⌝ }

@@ -1,11 +1,11 @@
--- `decoder::entry::finish` meets its contract: the first tests, then the step.
+-- `entry::drained` meets its contract: the first tests, then the step.
 use mathlib.Core.Path.{refl}
 use lib.Seq.{length-take-le}
-use Rattle.model.specs.Steps.{finish, streamOf}
-use Rattle.decoder.proofs.Effects.{turned-away, table-words, room-bytes, carried}
+use Rattle.model.specs.Steps.{drained, streamOf}
+use Rattle.entry.proofs.Effects.{turned-away, table-words, room-bytes, carried}
 use borrow.Author.Needs.{needs}
-use Rattle.decoder.proofs.entry.finish.Statement.{statement}
-use Rattle.decoder.proofs.entry.finish.Tie as tie
+use Rattle.entry.proofs.drained.Statement.{statement}
+use Rattle.entry.proofs.drained.Tie as tie
 
 host-refusal-requires : tie.Need-host-refusal-requires
 host-refusal-requires c κs = search needs
@@ -22,23 +22,23 @@ returns c =
     let a = start .args in
     turned-away (a .table .now) (a .answers .now) _ _ (after-host-refusal .host-refusal .ensures) (then1 .if1 .taken) (c .refused .ensures)
 
-sub-finish : tie.Need-sub-finish
-sub-finish c = search needs
+sub-drained : tie.Need-sub-drained
+sub-drained c = search needs
 
-part-finish-start : tie.Need-part-finish-start
-part-finish-start c = search needs
+part-drained-start : tie.Need-part-drained-start
+part-drained-start c = search needs
 
-part-finish-end : tie.Need-part-finish-end
-part-finish-end c =
+part-drained-end : tie.Need-part-drained-end
+part-drained-end c =
     let after-host-refusal = c .before in let start = after-host-refusal .before .before .before .before in
     let a = start .args in
-    table-words (a .table .now) (a .answers .now) (finish (a .stream) (a .queue) (a .resource) (a .flags) (a .timestamp)) (after-host-refusal .host-refusal .ensures) (c .if1 .left)
+    table-words (a .table .now) (a .answers .now) (drained (a .stream)) (after-host-refusal .host-refusal .ensures) (c .if1 .left)
 
-finish-requires : tie.Need-finish-requires
-finish-requires c κs =
+drained-requires : tie.Need-drained-requires
+drained-requires c κs =
     let else1 = c .before .before in let after-host-refusal = else1 .before in let start = after-host-refusal .before .before .before .before in
     let a = start .args in
-    let act = finish (a .stream) (a .queue) (a .resource) (a .flags) (a .timestamp) in
+    let act = drained (a .stream) in
     let e = after-host-refusal .host-refusal .ensures in
     let z = else1 .if1 .left in
     (length-take-le 4096 (a .table .now) (table-words (a .table .now) (a .answers .now) act e z), room-bytes (a .table .now) (a .answers .now) act e z)
@@ -52,24 +52,23 @@ same-length-3 c = search needs
 returns-2 : tie.Need-returns-2
 unfolding streamOf
 returns-2 c =
-    let after-finish = c .before .before .before .before in let else1 = after-finish .before .before .before in let after-host-refusal = else1 .before in
+    let after-drained = c .before .before .before .before in let else1 = after-drained .before .before .before in let after-host-refusal = else1 .before in
     let start = after-host-refusal .before .before .before .before in
     let a = start .args in
-    carried (a .table .now) (a .answers .now) (finish (a .stream) (a .queue) (a .resource) (a .flags) (a .timestamp))
-    (after-host-refusal .host-refusal .ensures) (else1 .if1 .left) (a .stream) refl (after-finish .finish .ensures)
+    carried (a .table .now) (a .answers .now) (drained (a .stream)) (after-host-refusal .host-refusal .ensures) (else1 .if1 .left) (a .stream) refl (after-drained .drained .ensures)
 
-pub finish-spec : {M : Type 1} → statement M
-finish-spec =
+pub drained-spec : {M : Type 1} → statement M
+drained-spec =
     tie.close
     (tie.spec
     host-refusal-requires
     refused-requires
     same-length
     returns
-    sub-finish
-    part-finish-start
-    part-finish-end
-    finish-requires
+    sub-drained
+    part-drained-start
+    part-drained-end
+    drained-requires
     same-length-2
     same-length-3
     returns-2)

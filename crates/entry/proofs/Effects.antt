@@ -11,12 +11,11 @@ use borrow.Author.Tests.{ne-eqb}
 use Rattle.model.specs.Numbers.{tableWords}
 use Rattle.model.specs.Device.{Device}
 use Rattle.model.specs.Answers.{bytesOf}
-use Rattle.model.specs.Steps.{Act, streamOf, hostRefusal, perform}
+use Rattle.model.specs.Steps.{Act, streamOf, hostRefusal, performOf}
 use Rattle.model.specs.Tables.{Effect, valid, carriedOut, effect}
 use Rattle.model.proofs.Tables.{Lent, not-refused}
 use Rattle.model.proofs.Unchanged.{writes-at-most}
-use Rattle.table.specs.Blocks.{decode}
-use Rattle.table.specs.Blocks.{layout}
+use Rattle.table.specs.Blocks.{decode, layout}
 use Rattle.table.proofs.Theorems.{valid-well, valid-words}
 use Rattle.steps.specs.Served.{Encodes, replyOf, Served}
 
@@ -44,7 +43,7 @@ module _ (t room : List ℕ) (a : Act) {k : ℕ} (e : k ≡ hostRefusal (length 
   stands = record { good = valid-well t (lent .good); held = valid-words t (lent .good) }
 
   -- what it comes to, by the stream that is named
-  runs : (o : Option ℕ) → streamOf a ≡ o → effect layout t a room ≡ carriedOut layout (perform device a o) t room
+  runs : (o : Option ℕ) → streamOf a ≡ o → effect layout t a room ≡ carriedOut layout (performOf device a o) t room
   unfolding effect
   runs o named = rw (← e, z, named) refl
 

@@ -1,14 +1,14 @@
--- `decoder::entry::command` meets its contract: the first tests, a whole header, the step.
+-- `entry::command` meets its contract: the first tests, a whole header, the step.
 use mathlib.Core.Path.{refl}
 use native.Mathlib.Omega.{arith}
 use borrow.Author.Tests.{lt-ltb, le-ltb}
 use lib.Seq.{length-take-le}
 use Rattle.model.specs.Frames.{streamId}
 use Rattle.model.specs.Steps.{command, streamOf}
-use Rattle.decoder.proofs.Effects.{turned-away, table-words, room-bytes, carried, unnamed, few}
+use Rattle.entry.proofs.Effects.{turned-away, table-words, room-bytes, carried, unnamed, few}
 use borrow.Author.Needs.{needs}
-use Rattle.decoder.proofs.entry.command.Statement.{statement}
-use Rattle.decoder.proofs.entry.command.Tie as tie
+use Rattle.entry.proofs.command.Statement.{statement}
+use Rattle.entry.proofs.command.Tie as tie
 
 host-refusal-requires : tie.Need-host-refusal-requires
 host-refusal-requires c κs = search needs

@@ -1,25 +1,20 @@
-// The entries: the host's first tests, then the step on the used words of the table. What stands behind them is never lent on.
+// Steps on whatever the host lends: its first tests, then the step on the used words of the table. What stands behind them is never lent on.
+// Each states its whole outcome by one equation to the model: `effect` of crates/model/specs/Tables, over the layout of crates/table/specs/Blocks.
 ghost use mathlib.Core.Path.{_≡_};
 ghost use lib.ListN.{length};
 ghost use Rattle.model.specs.Steps.{command, finish, drained, hostRefusal};
 ghost use Rattle.model.specs.Tables.{valid, effect};
 ghost use Rattle.table.specs.Blocks.{layout};
-ghost use Rattle.decoder.specs.Entry.{asEffect};
-use pending::Outcome;
-
-// The bytes of the answer room that a step must be lent, and of a command's header.
-const ANSWER_ROOM: usize = 1056;
-
-const HEADER: usize = 8;
-
-// The refusals of the host's first tests, and of a command without a whole header.
-const SHORT_TABLE: u32 = 1;
-
-const INVALID_TABLE: u32 = 2;
-
-const SHORT_ROOM: u32 = 3;
-
-const SHORT_COMMAND: u32 = 4;
+ghost use Rattle.entry.specs.Entry.{asEffect};
+use protocol::ANSWER_ROOM;
+use protocol::HEADER;
+use protocol::INVALID_TABLE;
+use protocol::Outcome;
+use protocol::SHORT_COMMAND;
+use protocol::SHORT_ROOM;
+use protocol::SHORT_TABLE;
+use protocol::refused;
+use table::TABLE_WORDS;
 
 // A command.
 pub fn command(table: &mut [u32], ticket: u32, frame: &[u8], answers: &mut [u8]) -> Outcome
@@ -27,12 +22,12 @@ pub fn command(table: &mut [u32], ticket: u32, frame: &[u8], answers: &mut [u8])
 {
     let refusal = host_refusal(table, answers.len());
     if refusal != 0 {
-        return steps::refused(refusal);
+        return refused(refusal);
     }
     if frame.len() < HEADER {
-        return steps::refused(SHORT_COMMAND);
+        return refused(SHORT_COMMAND);
     }
-    let written = steps::command(&mut table[0..table::TABLE_WORDS], ticket, frame, answers);
+    let written = steps::command(&mut table[0..TABLE_WORDS], ticket, frame, answers);
     Outcome {
         refusal: 0,
         written: written as u32,
@@ -53,10 +48,10 @@ pub fn finish(
 {
     let refusal = host_refusal(table, answers.len());
     if refusal != 0 {
-        return steps::refused(refusal);
+        return refused(refusal);
     }
     steps::finish(
-        &mut table[0..table::TABLE_WORDS],
+        &mut table[0..TABLE_WORDS],
         stream,
         queue,
         resource,
@@ -72,22 +67,22 @@ pub fn drained(table: &mut [u32], stream: u32, answers: &mut [u8]) -> Outcome
 {
     let refusal = host_refusal(table, answers.len());
     if refusal != 0 {
-        return steps::refused(refusal);
+        return refused(refusal);
     }
-    steps::drained(&mut table[0..table::TABLE_WORDS], stream, answers)
+    steps::drained(&mut table[0..TABLE_WORDS], stream, answers)
 }
 
 // The host's first tests, in their order: the table's words, the room's bytes, the table's validity; 0 if none hits.
 fn host_refusal(table: &[u32], room: usize) -> u32
     ensures { λ r. ⌜ r ≡ hostRefusal (length (now (table .entry))) room (valid layout (now (table .entry))) ⌝ }
 {
-    if table.len() < table::TABLE_WORDS {
+    if table.len() < TABLE_WORDS {
         return SHORT_TABLE;
     }
     if room < ANSWER_ROOM {
         return SHORT_ROOM;
     }
-    if !valid::valid(&table[0..table::TABLE_WORDS]) {
+    if !valid::valid(&table[0..TABLE_WORDS]) {
         return INVALID_TABLE;
     }
     0

@@ -2,7 +2,7 @@
 use Prim.Native.Nat.{ℕ}
 use mathlib.Core.List.{List}
 use Rattle.model.specs.Tables.{Effect}
-use Rattle.pending.specs.declared.Outcome.{Outcome}
+use Rattle.protocol.specs.declared.outcome.Outcome.{Outcome}
 
 -- its result (refusal number or 0, bytes written), and the table and the room at its exit
 abbrev pub asEffect : Outcome → List ℕ → List ℕ → Effect

@@ -1,11 +1,11 @@
--- `decoder::entry::host_refusal` meets its contract: only the used words count for validity.
+-- `entry::host_refusal` meets its contract: only the used words count for validity.
 use mathlib.Core.Path.{sym, _∙_}
 use borrow.Author.Tests.{lt-ltb, le-ltb, not-true, not-false}
 use Rattle.model.specs.Steps.{hostRefusal}
 use Rattle.table.proofs.Theorems.{valid-front}
 use borrow.Author.Needs.{needs}
-use Rattle.decoder.proofs.entry.host_refusal.Statement.{statement}
-use Rattle.decoder.proofs.entry.host_refusal.Tie as tie
+use Rattle.entry.proofs.host_refusal.Statement.{statement}
+use Rattle.entry.proofs.host_refusal.Tie as tie
 
 returns : tie.Need-returns
 unfolding hostRefusal
