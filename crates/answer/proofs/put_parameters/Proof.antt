@@ -41,11 +41,11 @@ same-length : tie.Need-same-length
 same-length c = search needs
 
 returns : tie.Need-returns
-returns c = let c₄ = c .before .before in
-    let c₃ = c₄ .before .before .before .before in
-    let c₂ = c₃ .before .before .before .before in
-    let c₁ = c₂ .before .before .before .before in
-    let a = c₁ .before .before .before .args in (
+returns c =
+    let after-put-planes = c .before .before in let after-put-words3 = after-put-planes .before .before .before .before in
+    let after-put-words2 = after-put-words3 .before .before .before .before in let after-put-words = after-put-words2 .before .before .before .before in
+    let start = after-put-words .before .before .before in
+    let a = start .args in (
       refl,
       λ q b s.
           wrote-sets (a .at) 128 (bytesOf (answerTo (a .ticket) (a .stream) (parameters (parameterWords q b)) ∷ [])) (parameters-length (a .ticket) (a .stream) q b)
@@ -53,7 +53,8 @@ returns c = let c₄ = c .before .before in
           (a .queue ∷ a .format ∷ a .width ∷ a .height ∷ [])
           (1 ∷ 16 ∷ 0 ∷ 0 ∷ [])
           (a .width ∷ a .height ∷ a .rate ∷ planes q (queueOf q b))
-          refl refl refl (c₁ .put-words .ensures) (c₂ .put-words2 .ensures) (c₃ .put-words3 .ensures) (c₄ .put-planes .ensures q (queueOf q b) (s .sides))
+          refl refl refl (after-put-words .put-words .ensures) (after-put-words2 .put-words2 .ensures) (after-put-words3 .put-words3 .ensures)
+          (after-put-planes .put-planes .ensures q (queueOf q b) (s .sides))
           ∙ ap (sets (now (a .out)) (a .at)) (parameters-answer (a .ticket) (a .stream) q b s)),
     )
 

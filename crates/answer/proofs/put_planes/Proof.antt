@@ -26,11 +26,12 @@ same-length : tie.Need-same-length
 same-length c = search needs
 
 returns : tie.Need-returns
-returns c = λ t q s. let c₂ = c .before .before in
-    let c₁ = c₂ .before .before .before .before in
-    let a = c₁ .before .before .before .before .args in
-    sets-words (now (a .out)) (a .at) 16 (a .width ∷ a .height ∷ a .rate ∷ 1 ∷ []) (pairs 262144 0 0 0) refl (c₁ .put-words .ensures) (c₂ .put-pairs .ensures)
-    ∙ ap (λ (l : List ℕ). sets (now (a .out)) (a .at) (words (a .width ∷ a .height ∷ a .rate ∷ l))) (input-planes t s (c₁ .before .before .if1 .taken))
+returns c =
+    let after-put-pairs = c .before .before in let after-put-words = after-put-pairs .before .before .before .before in
+    let then1 = after-put-words .before .before in let start = then1 .before .before in
+    λ t q s. let a = start .args in
+    sets-words (now (a .out)) (a .at) 16 (a .width ∷ a .height ∷ a .rate ∷ 1 ∷ []) (pairs 262144 0 0 0) refl (after-put-words .put-words .ensures) (after-put-pairs .put-pairs .ensures)
+    ∙ ap (λ (l : List ℕ). sets (now (a .out)) (a .at) (words (a .width ∷ a .height ∷ a .rate ∷ l))) (input-planes t s (then1 .if1 .taken))
 
 mul-size : tie.Need-mul-size
 mul-size c = omega (arith, mul-le-mul {n₁ = c .before .before .args .width} {m₁ = c .before .before .args .height} {n₂ = 4096} {m₂ = 4096} (omega arith) (omega arith))
@@ -48,12 +49,14 @@ same-length-2 : tie.Need-same-length-2
 same-length-2 c = search needs
 
 returns-2 : tie.Need-returns-2
-returns-2 c = λ t q s. let c₂ = c .before .before in
-    let c₁ = c₂ .before .before .before .before in
-    let a = c₁ .before .before .before .before .args in
+returns-2 c =
+    let after-put-pairs2 = c .before .before in let after-put-words2 = after-put-pairs2 .before .before .before .before in
+    let else1 = after-put-words2 .before .before in let start = else1 .before .before in
+    λ t q s. let a = start .args in
     let size : ℕ = a .width * a .height in
-    sets-words (now (a .out)) (a .at) 16 (a .width ∷ a .height ∷ a .rate ∷ 2 ∷ []) (pairs size (a .width) (size / 2) (a .width)) refl (c₁ .put-words2 .ensures) (c₂ .put-pairs2 .ensures)
-    ∙ ap (λ (l : List ℕ). sets (now (a .out)) (a .at) (words (a .width ∷ a .height ∷ a .rate ∷ l))) (output-planes t s (c₁ .before .before .if1 .left))
+    sets-words (now (a .out)) (a .at) 16 (a .width ∷ a .height ∷ a .rate ∷ 2 ∷ []) (pairs size (a .width) (size / 2) (a .width)) refl
+    (after-put-words2 .put-words2 .ensures) (after-put-pairs2 .put-pairs2 .ensures)
+    ∙ ap (λ (l : List ℕ). sets (now (a .out)) (a .at) (words (a .width ∷ a .height ∷ a .rate ∷ l))) (output-planes t s (else1 .if1 .left))
 
 pub put-planes-spec : {M : Type 1} → statement M
 put-planes-spec =

@@ -33,24 +33,24 @@ in-range-requires c κs = search needs
 
 returns-3 : tie.Need-returns-3
 unfolding goodCreation
-returns-3 c = let w = c .before in
-    let o = w .before .before in
-    let p = o .before .before in
-    and-holds _ _ _ (same-test (p .before .payload-u32 .ensures) (p .if1 .left))
-    (and-holds _ _ _ (same-test (o .before .payload-u322 .ensures) (o .if2 .left))
-    (and-fails _ _ (refused (w .in-range .ensures ∙ ap (λ (x : ℕ). within x 0x1000 0x1005) (w .before .coded-format .ensures)) (c .if3 .taken))))
+returns-3 c =
+    let after-in-range = c .before in let after-coded-format = after-in-range .before in let else2 = after-coded-format .before in
+    let after-payload-u322 = else2 .before in let else1 = after-payload-u322 .before in let after-payload-u32 = else1 .before in
+    and-holds _ _ _ (same-test (after-payload-u32 .payload-u32 .ensures) (else1 .if1 .left))
+    (and-holds _ _ _ (same-test (after-payload-u322 .payload-u322 .ensures) (else2 .if2 .left))
+    (and-fails _ _ (refused (after-in-range .in-range .ensures ∙ ap (λ (x : ℕ). within x 0x1000 0x1005) (after-coded-format .coded-format .ensures)) (c .if3 .taken))))
 
 tag-good-requires : tie.Need-tag-good-requires
 tag-good-requires c κs = search needs
 
 returns-4 : tie.Need-returns-4
 unfolding goodCreation
-returns-4 c = let w = c .before .before in
-    let o = w .before .before in
-    let p = o .before .before in
-    and-holds _ _ _ (same-test (p .before .payload-u32 .ensures) (p .if1 .left))
-    (and-holds _ _ _ (same-test (o .before .payload-u322 .ensures) (o .if2 .left))
-    (and-holds _ _ _ (passed (w .in-range .ensures ∙ ap (λ (x : ℕ). within x 0x1000 0x1005) (w .before .coded-format .ensures)) (c .before .if3 .left))
+returns-4 c =
+    let else3 = c .before in let after-in-range = else3 .before in let after-coded-format = after-in-range .before in let else2 = after-coded-format .before in
+    let after-payload-u322 = else2 .before in let else1 = after-payload-u322 .before in let after-payload-u32 = else1 .before in
+    and-holds _ _ _ (same-test (after-payload-u32 .payload-u32 .ensures) (else1 .if1 .left))
+    (and-holds _ _ _ (same-test (after-payload-u322 .payload-u322 .ensures) (else2 .if2 .left))
+    (and-holds _ _ _ (passed (after-in-range .in-range .ensures ∙ ap (λ (x : ℕ). within x 0x1000 0x1005) (after-coded-format .coded-format .ensures)) (else3 .if3 .left))
     (c .tag-good .ensures)))
 
 pub creation-good-spec : {M : Type 1} → statement M

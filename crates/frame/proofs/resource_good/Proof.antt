@@ -33,11 +33,11 @@ in-range-requires-2 c κs = search needs
 
 returns-2 : tie.Need-returns-2
 unfolding goodResource
-returns-2 c = let p = c .before in
-    let l = p .before .before in
-    let w = l .before in
-    and-holds _ _ _ (passed (w .in-range .ensures ∙ ap (λ (x : ℕ). within x 1 2) (w .before .payload-u32 .ensures)) (l .if1 .left))
-    (and-fails _ _ (refused (p .in-range2 .ensures ∙ ap (λ (x : ℕ). within x 1 8) (p .before .payload-u322 .ensures)) (c .if2 .taken)))
+returns-2 c =
+    let after-in-range2 = c .before in let after-payload-u322 = after-in-range2 .before in let else1 = after-payload-u322 .before in
+    let after-in-range = else1 .before in let after-payload-u32 = after-in-range .before in
+    and-holds _ _ _ (passed (after-in-range .in-range .ensures ∙ ap (λ (x : ℕ). within x 1 2) (after-payload-u32 .payload-u32 .ensures)) (else1 .if1 .left))
+    (and-fails _ _ (refused (after-in-range2 .in-range2 .ensures ∙ ap (λ (x : ℕ). within x 1 8) (after-payload-u322 .payload-u322 .ensures)) (c .if2 .taken)))
 
 cast-entry-sum : tie.Need-cast-entry-sum
 cast-entry-sum c = search needs
@@ -51,14 +51,14 @@ entries-good-requires c κs = search needs
 
 returns-3 : tie.Need-returns-3
 unfolding goodResource
-returns-3 c = let t = c .before .before in
-    let p = t .before in
-    let l = p .before .before in
-    let w = l .before in
-    let f = now (w .before .before .before .args .frame) in
-    and-holds _ _ _ (passed (w .in-range .ensures ∙ ap (λ (x : ℕ). within x 1 2) (w .before .payload-u32 .ensures)) (l .if1 .left))
-    (and-holds _ _ _ (passed (p .in-range2 .ensures ∙ ap (λ (x : ℕ). within x 1 8) (p .before .payload-u322 .ensures)) (t .if2 .left))
-    (c .entries-good .ensures ∙ ap (goodEntries f) (c .before .entry-sum .ensures ∙ ap (λ (k : ℕ). total (take k (numEntries f))) (p .before .payload-u322 .ensures))))
+returns-3 c =
+    let after-entry-sum = c .before in let else2 = after-entry-sum .before in let after-in-range2 = else2 .before in
+    let after-payload-u322 = after-in-range2 .before in let else1 = after-payload-u322 .before in let after-in-range = else1 .before in
+    let after-payload-u32 = after-in-range .before in let start = after-payload-u32 .before .before in
+    let f = now (start .args .frame) in
+    and-holds _ _ _ (passed (after-in-range .in-range .ensures ∙ ap (λ (x : ℕ). within x 1 2) (after-payload-u32 .payload-u32 .ensures)) (else1 .if1 .left))
+    (and-holds _ _ _ (passed (after-in-range2 .in-range2 .ensures ∙ ap (λ (x : ℕ). within x 1 8) (after-payload-u322 .payload-u322 .ensures)) (else2 .if2 .left))
+    (c .entries-good .ensures ∙ ap (goodEntries f) (after-entry-sum .entry-sum .ensures ∙ ap (λ (k : ℕ). total (take k (numEntries f))) (after-payload-u322 .payload-u322 .ensures))))
 
 pub resource-good-spec : {M : Type 1} → statement M
 resource-good-spec =

@@ -23,10 +23,11 @@ extent-good-requires c κs = search needs
 
 returns-2 : tie.Need-returns-2
 unfolding goodSet
-returns-2 c = let w = c .before in
-    let p = w .before .before in
-    and-holds _ _ _ (same-test (p .before .payload-u32 .ensures) (p .if1 .left))
-    (and-fails _ _ (refused (w .extent-good .ensures ∙ ap goodExtent (w .before .frame-width .ensures)) (c .if2 .taken)))
+returns-2 c =
+    let after-extent-good = c .before in let after-frame-width = after-extent-good .before in let else1 = after-frame-width .before in
+    let after-payload-u32 = else1 .before in
+    and-holds _ _ _ (same-test (after-payload-u32 .payload-u32 .ensures) (else1 .if1 .left))
+    (and-fails _ _ (refused (after-extent-good .extent-good .ensures ∙ ap goodExtent (after-frame-width .frame-width .ensures)) (c .if2 .taken)))
 
 frame-height-requires : tie.Need-frame-height-requires
 frame-height-requires c κs = search needs
@@ -36,11 +37,12 @@ extent-good-requires-2 c κs = search needs
 
 returns-3 : tie.Need-returns-3
 unfolding goodSet
-returns-3 c = let w = c .before .before .before in
-    let p = w .before .before in
-    and-holds _ _ _ (same-test (p .before .payload-u32 .ensures) (p .if1 .left))
-    (and-holds _ _ _ (passed (w .extent-good .ensures ∙ ap goodExtent (w .before .frame-width .ensures)) (c .before .before .if2 .left))
-    (c .extent-good2 .ensures ∙ ap goodExtent (c .before .frame-height .ensures)))
+returns-3 c =
+    let after-frame-height = c .before in let else2 = after-frame-height .before in let after-extent-good = else2 .before in
+    let after-frame-width = after-extent-good .before in let else1 = after-frame-width .before in let after-payload-u32 = else1 .before in
+    and-holds _ _ _ (same-test (after-payload-u32 .payload-u32 .ensures) (else1 .if1 .left))
+    (and-holds _ _ _ (passed (after-extent-good .extent-good .ensures ∙ ap goodExtent (after-frame-width .frame-width .ensures)) (else2 .if2 .left))
+    (c .extent-good2 .ensures ∙ ap goodExtent (after-frame-height .frame-height .ensures)))
 
 pub set-good-spec : {M : Type 1} → statement M
 set-good-spec =

@@ -27,9 +27,12 @@ same-length c = search needs
 
 returns : tie.Need-returns
 returns c =
-    let a = c .before .before .before .before .before .before .before .before .before .before .before .before .before .args in
-    let did = as-call (ap (λ (l : List ℕ). onPiece layout (record { table = a .table .now; line = l }) (a .piece .now)) (c .before .before .before .before .before .before .before .before .kept .ensures .1 (a .held .now) (search needs))) (c .before .before .before .before .feed .ensures .1) in
-    (rw (wrote-length (did .wrote)) (c .before .before .before .before .feed .ensures .0 .1), (used-some _ (a .piece .now) did, did))
+    let after-feed = c .before .before .before .before in let after-kept = after-feed .before .before .before .before in
+    let start = after-kept .before .before .before .before .before in
+    let a = start .args in
+    let did = as-call (ap (λ (l : List ℕ). onPiece layout (record { table = a .table .now; line = l }) (a .piece .now))
+    (after-kept .kept .ensures .1 (a .held .now) (search needs))) (after-feed .feed .ensures .1) in
+    (rw (wrote-length (did .wrote)) (after-feed .feed .ensures .0 .1), (used-some _ (a .piece .now) did, did))
 
 pub feed-spec : {M : Type 1} → statement M
 feed-spec =

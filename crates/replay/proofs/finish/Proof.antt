@@ -20,8 +20,11 @@ same-length c = search needs
 
 returns : tie.Need-returns
 returns c =
-    let a = c .before .before .before .before .before .before .before .before .args in
-    (c .before .before .finish .ensures .0, as-logged (ap (λ (l : List ℕ). lastStep layout (record { table = a .table .now; line = l })) (c .before .before .before .before .kept .ensures .1 (a .held .now) (search needs))) (c .before .before .finish .ensures .1))
+    let after-finish = c .before .before in let after-kept = after-finish .before .before in let start = after-kept .before .before .before .before in
+    let a = start .args in (
+      after-finish .finish .ensures .0,
+      as-logged (ap (λ (l : List ℕ). lastStep layout (record { table = a .table .now; line = l })) (after-kept .kept .ensures .1 (a .held .now) (search needs))) (after-finish .finish .ensures .1),
+    )
 
 pub finish-spec : {M : Type 1} → statement M
 finish-spec = tie.close (tie.spec kept-requires finish-requires same-length returns)

@@ -30,9 +30,11 @@ same-length-2 c = search needs
 
 returns : tie.Need-returns
 returns c b h =
-    failed (c .before .before .before .before .before .before .before .before .before .before .before .args .ticket) invalidOperation h
-    (drain-again _ b (sym (ap drainOf (c .before .before .before .before .enum-told2 .given .1)) ∙ c .before .before .before .before .before .before .drain-owed .ensures _ b (h .held)))
-    (c .before .before .put-plain .ensures)
+    let after-put-plain = c .before .before in let after-enum-told2 = after-put-plain .before .before in
+    let after-drain-owed = after-enum-told2 .before .before in let start = after-drain-owed .before .before .before .before .before in
+    failed (start .args .ticket) invalidOperation h
+    (drain-again _ b (sym (ap drainOf (after-enum-told2 .enum-told2 .given .1)) ∙ after-drain-owed .drain-owed .ensures _ b (h .held)))
+    (after-put-plain .put-plain .ensures)
 
 set-drain-requires : tie.Need-set-drain-requires
 set-drain-requires c κs = search needs
@@ -42,9 +44,11 @@ same-length-3 c = search needs
 
 returns-2 : tie.Need-returns-2
 returns-2 c b h =
-    silent _ (some (withDrain (some (c .before .before .before .before .before .before .before .before .before .before .before .args .ticket)) b))
-    (drain-new _ b (sym (ap drainOf (c .before .before .before .before .enum-told .given .1)) ∙ c .before .before .before .before .before .before .drain-owed .ensures _ b (h .held)))
-    (c .before .before .set-drain .ensures _ b (h .held))
+    let after-set-drain = c .before .before in let after-enum-told = after-set-drain .before .before in
+    let after-drain-owed = after-enum-told .before .before in let start = after-drain-owed .before .before .before .before .before in
+    silent _ (some (withDrain (some (start .args .ticket)) b))
+    (drain-new _ b (sym (ap drainOf (after-enum-told .enum-told .given .1)) ∙ after-drain-owed .drain-owed .ensures _ b (h .held)))
+    (after-set-drain .set-drain .ensures _ b (h .held))
 
 pub drain-spec : {M : Type 1} → statement M
 drain-spec =

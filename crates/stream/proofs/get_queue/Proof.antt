@@ -45,8 +45,15 @@ height-requires c κs = search needs
 
 returns-2 : tie.Need-returns-2
 returns-2 c f b h x =
-    let t = queueTypeOf (c .before .before .before .before .before .before .before .before .args .q) in
-    absurd (omega (arith, c .if2 .taken, c .before .height .ensures (queueOf t b) (queue-words h t _ (c .before .before .before .before .before .queue-start .ensures .1)), extent-most (queueOf t b .height) (height-good h t)))
+    let after-height = c .before in let after-queue-start = after-height .before .before .before .before in
+    let start = after-queue-start .before .before .before in
+    let t = queueTypeOf (start .args .q) in
+    absurd (omega (
+      arith,
+      c .if2 .taken,
+      after-height .height .ensures (queueOf t b) (queue-words h t _ (after-queue-start .queue-start .ensures .1)),
+      extent-most (queueOf t b .height) (height-good h t),
+    ))
 
 rate-requires : tie.Need-rate-requires
 rate-requires c κs = search needs
@@ -65,17 +72,21 @@ same-length c = search needs
 
 returns-3 : tie.Need-returns-3
 returns-3 c f b h x =
-    let a = c .before .before .before .before .before .before .before .before .before .before .before .before .before .before .before .args in
+    let after-put-parameters = c .before .before in let after-queue-number = after-put-parameters .before in
+    let after-queue-format = after-queue-number .before .before in let after-rate = after-queue-format .before in
+    let after-height = after-rate .before .before in let after-width = after-height .before .before in let after-queue-start = after-width .before .before in
+    let start = after-queue-start .before .before .before in
+    let a = start .args in
     let t = queueTypeOf (a .q) in
     let Q = queueOf t b in
-    let here = queue-words h t _ (c .before .before .before .before .before .before .before .before .before .before .before .before .queue-start .ensures .1) in
+    let here = queue-words h t _ (after-queue-start .queue-start .ensures .1) in
     replied (answerTo (a .ticket) (a .stream) (parameters (parameterWords t b)) ∷ []) (some b)
     (getting (asked (a .stream) (a .ticket) f b) b t x)
     (h .held)
-    (c .before .before .put-parameters .ensures .1 t b (record {
-      sides = record { isQueue = c .before .before .before .queue-number .ensures; isWidth = c .before .before .before .before .before .before .before .before .before .before .width .ensures Q here; isHeight = c .before .before .before .before .before .before .before .before .height .ensures Q here };
-      isFormat = c .before .before .before .before .before .queue-format .ensures (a .stream) b (h .held);
-      isRate = c .before .before .before .before .before .before .rate .ensures Q here;
+    (after-put-parameters .put-parameters .ensures .1 t b (record {
+      sides = record { isQueue = after-queue-number .queue-number .ensures; isWidth = after-width .width .ensures Q here; isHeight = after-height .height .ensures Q here };
+      isFormat = after-queue-format .queue-format .ensures (a .stream) b (h .held);
+      isRate = after-rate .rate .ensures Q here;
     }))
 
 pub get-queue-spec : {M : Type 1} → statement M

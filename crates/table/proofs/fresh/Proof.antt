@@ -35,9 +35,10 @@ same-length c = search needs
 returns-2 : tie.Need-returns-2
 unfolding freshen
 returns-2 c =
-    let t = c .before .before .before .before .before .before .args .table .now in
-    let long = c .before .before .before .before .if1 .left in
-    rw (le-ltb _ _ long) (ap (λ (w : List ℕ). freshened 0 (w ++ drop 4096 t)) (c .before .before .clear .ensures ∙ ap zeros (length-take-le 4096 t long) ∙ sym fresh-is-zero))
+    let after-clear = c .before .before in let else1 = after-clear .before .before in let start = else1 .before .before in
+    let t = start .args .table .now in
+    let long = else1 .if1 .left in
+    rw (le-ltb _ _ long) (ap (λ (w : List ℕ). freshened 0 (w ++ drop 4096 t)) (after-clear .clear .ensures ∙ ap zeros (length-take-le 4096 t long) ∙ sym fresh-is-zero))
 
 pub fresh-spec : {M : Type 1} → statement M
 fresh-spec =

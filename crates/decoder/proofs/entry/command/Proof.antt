@@ -21,8 +21,9 @@ same-length c = search needs
 
 returns : tie.Need-returns
 returns c =
-    let a = c .before .before .before .before .before .before .before .args in
-    turned-away (a .table .now) (a .answers .now) _ _ (c .before .before .host-refusal .ensures) (c .before .if1 .taken) (c .refused .ensures)
+    let then1 = c .before in let after-host-refusal = then1 .before in let start = after-host-refusal .before .before .before .before .before in
+    let a = start .args in
+    turned-away (a .table .now) (a .answers .now) _ _ (after-host-refusal .host-refusal .ensures) (then1 .if1 .taken) (c .refused .ensures)
 
 refused-requires-2 : tie.Need-refused-requires-2
 refused-requires-2 c κs = search needs
@@ -33,8 +34,11 @@ same-length-2 c = search needs
 returns-2 : tie.Need-returns-2
 unfolding streamOf
 returns-2 c =
-    let a = c .before .before .before .before .before .before .before .before .args in
-    unnamed (a .table .now) (a .answers .now) (command (a .ticket) (a .frame .now)) (c .before .before .before .host-refusal .ensures) (c .before .before .if1 .left) (rw (lt-ltb _ _ (c .before .if2 .taken)) refl) (c .refused2 .ensures)
+    let then2 = c .before in let else1 = then2 .before in let after-host-refusal = else1 .before in
+    let start = after-host-refusal .before .before .before .before .before in
+    let a = start .args in
+    unnamed (a .table .now) (a .answers .now) (command (a .ticket) (a .frame .now)) (after-host-refusal .host-refusal .ensures) (else1 .if1 .left)
+    (rw (lt-ltb _ _ (then2 .if2 .taken)) refl) (c .refused2 .ensures)
 
 sub-command : tie.Need-sub-command
 sub-command c = search needs
@@ -44,22 +48,31 @@ part-command-start c = search needs
 
 part-command-end : tie.Need-part-command-end
 part-command-end c =
-    let a = c .before .before .before .before .before .before .before .args in
-    table-words (a .table .now) (a .answers .now) (command (a .ticket) (a .frame .now)) (c .before .before .host-refusal .ensures) (c .before .if1 .left)
+    let else1 = c .before in let after-host-refusal = else1 .before in let start = after-host-refusal .before .before .before .before .before in
+    let a = start .args in
+    table-words (a .table .now) (a .answers .now) (command (a .ticket) (a .frame .now)) (after-host-refusal .host-refusal .ensures) (else1 .if1 .left)
 
 command-requires : tie.Need-command-requires
 command-requires c κs =
-    let a = c .before .before .before .before .before .before .before .before .before .args in
+    let else2 = c .before .before in let else1 = else2 .before in let after-host-refusal = else1 .before in
+    let start = after-host-refusal .before .before .before .before .before in
+    let a = start .args in
     let act = command (a .ticket) (a .frame .now) in
-    let e = c .before .before .before .before .host-refusal .ensures in
-    let z = c .before .before .before .if1 .left in
-    (length-take-le 4096 (a .table .now) (table-words (a .table .now) (a .answers .now) act e z), c .before .before .if2 .left, room-bytes (a .table .now) (a .answers .now) act e z)
+    let e = after-host-refusal .host-refusal .ensures in
+    let z = else1 .if1 .left in
+    (length-take-le 4096 (a .table .now) (table-words (a .table .now) (a .answers .now) act e z), else2 .if2 .left, room-bytes (a .table .now) (a .answers .now) act e z)
 
 cast-t16 : tie.Need-cast-t16
 unfolding streamOf
 cast-t16 c =
-    let a = c .before .before .before .before .before .before .before .before .before .before .before .before .before .before .args in
-    omega (arith, few (a .table .now) (a .answers .now) (command (a .ticket) (a .frame .now)) (c .before .before .before .before .before .before .before .before .before .host-refusal .ensures) (c .before .before .before .before .before .before .before .before .if1 .left) (streamId (a .frame .now)) (rw (le-ltb _ _ (c .before .before .before .before .before .before .before .if2 .left)) refl) (c .before .before .before .before .command .ensures))
+    let after-command = c .before .before .before .before in let else2 = after-command .before .before .before in let else1 = else2 .before in
+    let after-host-refusal = else1 .before in let start = after-host-refusal .before .before .before .before .before in
+    let a = start .args in
+    omega (
+      arith,
+      few (a .table .now) (a .answers .now) (command (a .ticket) (a .frame .now)) (after-host-refusal .host-refusal .ensures) (else1 .if1 .left)
+          (streamId (a .frame .now)) (rw (le-ltb _ _ (else2 .if2 .left)) refl) (after-command .command .ensures),
+    )
 
 same-length-3 : tie.Need-same-length-3
 same-length-3 c = search needs
@@ -70,8 +83,11 @@ same-length-4 c = search needs
 returns-3 : tie.Need-returns-3
 unfolding streamOf
 returns-3 c =
-    let a = c .before .before .before .before .before .before .before .before .before .before .before .before .before .before .args in
-    carried (a .table .now) (a .answers .now) (command (a .ticket) (a .frame .now)) (c .before .before .before .before .before .before .before .before .before .host-refusal .ensures) (c .before .before .before .before .before .before .before .before .if1 .left) (streamId (a .frame .now)) (rw (le-ltb _ _ (c .before .before .before .before .before .before .before .if2 .left)) refl) (c .before .before .before .before .command .ensures)
+    let after-command = c .before .before .before .before in let else2 = after-command .before .before .before in let else1 = else2 .before in
+    let after-host-refusal = else1 .before in let start = after-host-refusal .before .before .before .before .before in
+    let a = start .args in
+    carried (a .table .now) (a .answers .now) (command (a .ticket) (a .frame .now)) (after-host-refusal .host-refusal .ensures) (else1 .if1 .left)
+    (streamId (a .frame .now)) (rw (le-ltb _ _ (else2 .if2 .left)) refl) (after-command .command .ensures)
 
 pub command-spec : {M : Type 1} → statement M
 command-spec =

@@ -30,16 +30,18 @@ valid-requires c κs = search needs
 returns-3 : tie.Need-returns-3
 unfolding hostRefusal
 returns-3 c =
-    let t = c .before .before .before .before .before .before .args .table .now in
-    let v = sym (valid-front t) ∙ sym (c .before .valid .ensures) ∙ not-true _ (c .if3 .taken) in
-    rw (le-ltb _ _ (c .before .before .before .before .if1 .left), le-ltb _ _ (c .before .before .before .if2 .left), v)
+    let after-valid = c .before in let else2 = after-valid .before .before in let else1 = else2 .before in let start = else1 .before .before in
+    let t = start .args .table .now in
+    let v = sym (valid-front t) ∙ sym (after-valid .valid .ensures) ∙ not-true _ (c .if3 .taken) in
+    rw (le-ltb _ _ (else1 .if1 .left), le-ltb _ _ (else2 .if2 .left), v)
 
 returns-4 : tie.Need-returns-4
 unfolding hostRefusal
 returns-4 c =
-    let t = c .before .before .before .before .before .before .args .table .now in
-    let v = sym (valid-front t) ∙ sym (c .before .valid .ensures) ∙ not-false _ (c .if3 .left) in
-    rw (le-ltb _ _ (c .before .before .before .before .if1 .left), le-ltb _ _ (c .before .before .before .if2 .left), v)
+    let after-valid = c .before in let else2 = after-valid .before .before in let else1 = else2 .before in let start = else1 .before .before in
+    let t = start .args .table .now in
+    let v = sym (valid-front t) ∙ sym (after-valid .valid .ensures) ∙ not-false _ (c .if3 .left) in
+    rw (le-ltb _ _ (else1 .if1 .left), le-ltb _ _ (else2 .if2 .left), v)
 
 pub host-refusal-spec : {M : Type 1} → statement M
 host-refusal-spec =

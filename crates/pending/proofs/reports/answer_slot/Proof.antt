@@ -79,16 +79,18 @@ same-length-2 c = search needs
 
 returns : tie.Need-returns
 returns c b m h found waits eos =
-    let s = c .before .before .before .before .before .before .before .before .before .before .before .before .before .before .before .before .before in
-    let n = s .args .stream in
-    let q = queueTypeOf (s .args .queue) in
-    let start = c .before .before .before .before .before .before .before .before .before .before .before .before .before .before .queue-start .ensures .1 in
+    let after-put-buffer = c .before .before in let after-set-dequeued = after-put-buffer .before .before .before .before in
+    let after-timestamp-in = after-set-dequeued .before .before in let after-slot-ticket = after-timestamp-in .before .before .before in
+    let after-queue-start = after-slot-ticket .before .before .before in let at-start = after-queue-start .before .before .before in
+    let n = at-start .args .stream in
+    let q = queueTypeOf (at-start .args .queue) in
+    let start = after-queue-start .queue-start .ensures .1 in
     answered-done _ _
-    (finish-answers n m (s .args .flags) (s .args .timestamp) b q (s .args .k) (apart h q) found waits _ _ eos
-    (c .before .before .before .before .before .before .before .before .before .before .before .slot-ticket .ensures (queueOf q b) (queue-words h q _ start))
-    (λ i t. c .before .before .before .before .before .before .before .before .timestamp-in .ensures (queueOf q b) i (queue-words h q _ start) t))
-    (queue-back h q _ start _ _ (c .before .before .before .before .before .before .set-dequeued .ensures (queueOf q b)))
-    (c .before .before .put-buffer .ensures q)
+    (finish-answers n m (at-start .args .flags) (at-start .args .timestamp) b q (at-start .args .k) (apart h q) found waits _ _ eos
+    (after-slot-ticket .slot-ticket .ensures (queueOf q b) (queue-words h q _ start))
+    (λ i t. after-timestamp-in .timestamp-in .ensures (queueOf q b) i (queue-words h q _ start) t))
+    (queue-back h q _ start _ _ (after-set-dequeued .set-dequeued .ensures (queueOf q b)))
+    (after-put-buffer .put-buffer .ensures q)
 
 pub answer-slot-spec : {M : Type 1} → statement M
 answer-slot-spec =

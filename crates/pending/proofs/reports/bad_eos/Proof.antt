@@ -29,10 +29,16 @@ enum-told-4 : tie.Need-enum-told-4
 enum-told-4 c = search needs
 
 returns-3 : tie.Need-returns-3
-returns-3 c n b h = eos-settled (c .before .before .before .before .before .before .before .args .flags) _ b (omega arith) (ap queueTypeOf (c .before .before .before .enum-told .given .1)) (ap drainOf (sym (c .enum-told4 .given .1)) ∙ c .before .before .drain-owed .ensures n b (h .held))
+returns-3 c n b h =
+    let after-drain-owed = c .before .before in let after-enum-told = after-drain-owed .before in let start = after-enum-told .before .before .before .before in
+    eos-settled (start .args .flags) _ b (omega arith) (ap queueTypeOf (after-enum-told .enum-told .given .1))
+    (ap drainOf (sym (c .enum-told4 .given .1)) ∙ after-drain-owed .drain-owed .ensures n b (h .held))
 
 returns-4 : tie.Need-returns-4
-returns-4 c n b h = eos-owed (c .before .before .before .before .before .before .before .args .flags) _ b _ (omega arith) (ap queueTypeOf (c .before .before .before .enum-told .given .1)) (ap drainOf (sym (c .enum-told3 .given .1)) ∙ c .before .before .drain-owed .ensures n b (h .held))
+returns-4 c n b h =
+    let after-drain-owed = c .before .before in let after-enum-told = after-drain-owed .before in let start = after-enum-told .before .before .before .before in
+    eos-owed (start .args .flags) _ b _ (omega arith) (ap queueTypeOf (after-enum-told .enum-told .given .1))
+    (ap drainOf (sym (c .enum-told3 .given .1)) ∙ after-drain-owed .drain-owed .ensures n b (h .held))
 
 pub bad-eos-spec : {M : Type 1} → statement M
 bad-eos-spec =

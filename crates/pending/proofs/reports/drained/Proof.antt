@@ -25,7 +25,9 @@ same-length : tie.Need-same-length
 same-length c = search needs
 
 returns : tie.Need-returns
-returns c b h = refused-done h (drained-none (c .before .before .before .before .before .before .args .stream) b (ap drainOf (sym (c .enum-told .given .1)) ∙ c .before .before .drain-owed .ensures (c .before .before .before .before .before .before .args .stream) b (h .held)))
+returns c b h =
+    let after-drain-owed = c .before .before in let start = after-drain-owed .before .before .before .before in
+    refused-done h (drained-none (start .args .stream) b (ap drainOf (sym (c .enum-told .given .1)) ∙ after-drain-owed .drain-owed .ensures (start .args .stream) b (h .held)))
 
 queue-start-requires : tie.Need-queue-start-requires
 queue-start-requires c κs = search needs
@@ -53,10 +55,13 @@ same-length-2 c = search needs
 
 returns-2 : tie.Need-returns-2
 returns-2 c b h =
-    let n = c .before .before .before .before .before .before .before .before .before .before .before .before .args .stream in
+    let after-any-queued = c .before in let after-queue-start = after-any-queued .before .before .before in
+    let after-drain = after-queue-start .before .before in let after-drain-owed = after-drain .before .before in
+    let start = after-drain-owed .before .before .before .before in
+    let n = start .args .stream in
     refused-done h
-    (drained-busy n b _ (ap drainOf (sym (c .before .before .before .before .before .before .drain .given .1)) ∙ c .before .before .before .before .before .before .before .before .drain-owed .ensures n b (h .held))
-    (not-true _ (sym (c .before .any-queued .ensures (b .inputs) (queue-words h input _ (c .before .before .before .before .queue-start .ensures .1))) ∙ c .if1 .taken)))
+    (drained-busy n b _ (ap drainOf (sym (after-drain .drain .given .1)) ∙ after-drain-owed .drain-owed .ensures n b (h .held))
+    (not-true _ (sym (after-any-queued .any-queued .ensures (b .inputs) (queue-words h input _ (after-queue-start .queue-start .ensures .1))) ∙ c .if1 .taken)))
 
 drop-drain-requires : tie.Need-drop-drain-requires
 drop-drain-requires c κs = search needs
@@ -75,12 +80,16 @@ same-length-4 c = search needs
 
 returns-3 : tie.Need-returns-3
 returns-3 c b h =
-    let n = c .before .before .before .before .before .before .before .before .before .before .before .before .before .before .before .before .before .before .before .before .args .stream in
+    let after-put-plain = c .before .before in let after-drop-drain = after-put-plain .before .before .before .before in
+    let else1 = after-drop-drain .before .before in let after-any-queued = else1 .before in let after-queue-start = after-any-queued .before .before .before in
+    let after-drain = after-queue-start .before .before in let after-drain-owed = after-drain .before .before in
+    let start = after-drain-owed .before .before .before .before in
+    let n = start .args .stream in
     answered-done _ _
-    (drained-ends n b _ (ap drainOf (sym (c .before .before .before .before .before .before .before .before .before .before .before .before .before .before .drain .given .1)) ∙ c .before .before .before .before .before .before .before .before .before .before .before .before .before .before .before .before .drain-owed .ensures n b (h .held))
-    (not-false _ (sym (c .before .before .before .before .before .before .before .before .before .any-queued .ensures (b .inputs) (queue-words h input _ (c .before .before .before .before .before .before .before .before .before .before .before .before .queue-start .ensures .1))) ∙ c .before .before .before .before .before .before .before .before .if1 .left)))
-    (c .before .before .before .before .before .before .drop-drain .ensures n b (h .held))
-    (wrote-plain _ n 0x0200 drainDone refl (c .before .before .put-plain .ensures))
+    (drained-ends n b _ (ap drainOf (sym (after-drain .drain .given .1)) ∙ after-drain-owed .drain-owed .ensures n b (h .held))
+    (not-false _ (sym (after-any-queued .any-queued .ensures (b .inputs) (queue-words h input _ (after-queue-start .queue-start .ensures .1))) ∙ else1 .if1 .left)))
+    (after-drop-drain .drop-drain .ensures n b (h .held))
+    (wrote-plain _ n 0x0200 drainDone refl (after-put-plain .put-plain .ensures))
 
 pub drained-spec : {M : Type 1} → statement M
 drained-spec =

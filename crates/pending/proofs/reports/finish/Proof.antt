@@ -31,9 +31,11 @@ same-length-2 c = search needs
 
 returns-2 : tie.Need-returns-2
 returns-2 c b h =
-    let a = c .before .before .before .before .before .before .before .before .before .before .before .before .before .args in
-    done-as (finish-named (a .stream) (a .queue) (a .resource) (a .flags) (a .ts) b _ (omega arith) (named _ _ (c .before .before .before .before .before .before .before .before .before .before .queue-of .ensures) refl (c .before .before .before .before .before .before .before .before .target .given .1)))
-    (c .before .before .before .before .finish-in .ensures b h)
+    let after-finish-in = c .before .before .before .before in let after-target = after-finish-in .before .before .before .before in
+    let after-queue-of = after-target .before .before in let start = after-queue-of .before .before .before in
+    let a = start .args in
+    done-as (finish-named (a .stream) (a .queue) (a .resource) (a .flags) (a .ts) b _ (omega arith) (named _ _ (after-queue-of .queue-of .ensures) refl (after-target .target .given .1)))
+    (after-finish-in .finish-in .ensures b h)
 
 pub finish-spec : {M : Type 1} → statement M
 finish-spec =

@@ -41,12 +41,13 @@ same-length c = search needs
 
 returns : tie.Need-returns
 returns c b h =
-    let s = c .before .before .before .before .before .before .before .before in
-    let n = s .args .stream in
-    let q = queueTypeOf (s .args .queue) in
+    let after-find-resource = c .before .before in let after-queue-start = after-find-resource .before .before .before in
+    let start = after-queue-start .before .before .before in
+    let n = start .args .stream in
+    let q = queueTypeOf (start .args .queue) in
     refused-done h
-    (finish-absent n (s .args .resource) (s .args .flags) (s .args .timestamp) b q
-    (sym (c .before .before .find-resource .ensures .1 (queueOf q b) (queue-words h q _ (c .before .before .before .before .before .queue-start .ensures .1))) ∙ ap foundAt (c .enum-told .given .1)))
+    (finish-absent n (start .args .resource) (start .args .flags) (start .args .timestamp) b q
+    (sym (after-find-resource .find-resource .ensures .1 (queueOf q b) (queue-words h q _ (after-queue-start .queue-start .ensures .1))) ∙ ap foundAt (c .enum-told .given .1)))
 
 finish-slot-requires : tie.Need-finish-slot-requires
 finish-slot-requires c κs = (search needs, within-at 16 (c .before .before .before .found .given .1) (c .before .before .before .before .before .find-resource .ensures .0), search needs)
@@ -59,11 +60,13 @@ same-length-3 c = search needs
 
 returns-2 : tie.Need-returns-2
 returns-2 c b h =
-    let s = c .before .before .before .before .before .before .before .before .before .before .before .before .before .before .before .before in
-    let n = s .args .stream in
-    let q = queueTypeOf (s .args .queue) in
-    c .before .before .before .before .finish-slot .ensures b (s .args .resource) h
-    (sym (c .before .before .before .before .before .before .before .before .before .before .find-resource .ensures .1 (queueOf q b) (queue-words h q _ (c .before .before .before .before .before .before .before .before .before .before .before .before .before .queue-start .ensures .1))) ∙ ap foundAt (c .before .before .before .before .before .before .before .before .found .given .1))
+    let after-finish-slot = c .before .before .before .before in let after-found = after-finish-slot .before .before .before .before in
+    let after-find-resource = after-found .before .before in let after-queue-start = after-find-resource .before .before .before in
+    let start = after-queue-start .before .before .before in
+    let n = start .args .stream in
+    let q = queueTypeOf (start .args .queue) in
+    after-finish-slot .finish-slot .ensures b (start .args .resource) h
+    (sym (after-find-resource .find-resource .ensures .1 (queueOf q b) (queue-words h q _ (after-queue-start .queue-start .ensures .1))) ∙ ap foundAt (after-found .found .given .1))
 
 pub finish-in-spec : {M : Type 1} → statement M
 finish-in-spec =

@@ -35,12 +35,13 @@ same-length c = search needs
 
 returns : tie.Need-returns
 returns c b m h found =
-    let s = c .before .before .before .before .before .before .before in
-    let n = s .args .stream in
-    let q = queueTypeOf (s .args .queue) in
+    let after-slot-queued = c .before in let after-queue-start = after-slot-queued .before .before .before in
+    let start = after-queue-start .before .before .before in
+    let n = start .args .stream in
+    let q = queueTypeOf (start .args .queue) in
     refused-done h
-    (finish-idle n m (s .args .flags) (s .args .timestamp) b q (s .args .k) (apart h q) found
-    (sym (c .before .slot-queued .ensures (queueOf q b) (queue-words h q _ (c .before .before .before .before .queue-start .ensures .1))) ∙ not-true _ (c .if1 .taken)))
+    (finish-idle n m (start .args .flags) (start .args .timestamp) b q (start .args .k) (apart h q) found
+    (sym (after-slot-queued .slot-queued .ensures (queueOf q b) (queue-words h q _ (after-queue-start .queue-start .ensures .1))) ∙ not-true _ (c .if1 .taken)))
 
 bad-eos-requires : tie.Need-bad-eos-requires
 bad-eos-requires c κs = search needs
@@ -50,13 +51,14 @@ same-length-2 c = search needs
 
 returns-2 : tie.Need-returns-2
 returns-2 c b m h found =
-    let s = c .before .before .before .before .before .before .before .before .before .before in
-    let n = s .args .stream in
-    let q = queueTypeOf (s .args .queue) in
+    let after-bad-eos = c .before in let else1 = after-bad-eos .before .before in let after-slot-queued = else1 .before in
+    let after-queue-start = after-slot-queued .before .before .before in let start = after-queue-start .before .before .before in
+    let n = start .args .stream in
+    let q = queueTypeOf (start .args .queue) in
     refused-done h
-    (finish-eos n m (s .args .flags) (s .args .timestamp) b q (s .args .k) (apart h q) found
-    (sym (c .before .before .before .before .slot-queued .ensures (queueOf q b) (queue-words h q _ (c .before .before .before .before .before .before .before .queue-start .ensures .1))) ∙ not-false _ (c .before .before .before .if1 .left))
-    (sym (c .before .bad-eos .ensures n b h) ∙ c .if2 .taken))
+    (finish-eos n m (start .args .flags) (start .args .timestamp) b q (start .args .k) (apart h q) found
+    (sym (after-slot-queued .slot-queued .ensures (queueOf q b) (queue-words h q _ (after-queue-start .queue-start .ensures .1))) ∙ not-false _ (else1 .if1 .left))
+    (sym (after-bad-eos .bad-eos .ensures n b h) ∙ c .if2 .taken))
 
 answer-slot-requires : tie.Need-answer-slot-requires
 answer-slot-requires c κs = search needs
@@ -69,12 +71,14 @@ same-length-4 c = search needs
 
 returns-3 : tie.Need-returns-3
 returns-3 c b m h found =
-    let s = c .before .before .before .before .before .before .before .before .before .before .before .before .before .before .before .before .before in
-    let n = s .args .stream in
-    let q = queueTypeOf (s .args .queue) in
-    c .before .before .before .before .answer-slot .ensures b m h found
-    (sym (c .before .before .before .before .before .before .before .before .before .before .before .slot-queued .ensures (queueOf q b) (queue-words h q _ (c .before .before .before .before .before .before .before .before .before .before .before .before .before .before .queue-start .ensures .1))) ∙ not-false _ (c .before .before .before .before .before .before .before .before .before .before .if1 .left))
-    (sym (c .before .before .before .before .before .before .before .before .bad-eos .ensures n b h) ∙ c .before .before .before .before .before .before .before .if2 .left)
+    let after-answer-slot = c .before .before .before .before in let else2 = after-answer-slot .before .before .before in let after-bad-eos = else2 .before in
+    let else1 = after-bad-eos .before .before in let after-slot-queued = else1 .before in let after-queue-start = after-slot-queued .before .before .before in
+    let start = after-queue-start .before .before .before in
+    let n = start .args .stream in
+    let q = queueTypeOf (start .args .queue) in
+    after-answer-slot .answer-slot .ensures b m h found
+    (sym (after-slot-queued .slot-queued .ensures (queueOf q b) (queue-words h q _ (after-queue-start .queue-start .ensures .1))) ∙ not-false _ (else1 .if1 .left))
+    (sym (after-bad-eos .bad-eos .ensures n b h) ∙ else2 .if2 .left)
 
 pub finish-slot-spec : {M : Type 1} → statement M
 finish-slot-spec =

@@ -19,7 +19,9 @@ slot-timestamp-requires : tie.Need-slot-timestamp-requires
 slot-timestamp-requires c κs = search needs
 
 returns-2 : tie.Need-returns-2
-returns-2 c Q i e t = c .slot-timestamp .ensures Q e ∙ sym t ∙ told-input _ i (c .before .before .before .before .args .timestamp) (ap queueTypeOf (c .before .enum-told .given .1))
+returns-2 c Q i e t =
+    let after-enum-told = c .before in let start = after-enum-told .before .before .before in
+    c .slot-timestamp .ensures Q e ∙ sym t ∙ told-input _ i (start .args .timestamp) (ap queueTypeOf (after-enum-told .enum-told .given .1))
 
 pub timestamp-in-spec : {M : Type 1} → statement M
 timestamp-in-spec =

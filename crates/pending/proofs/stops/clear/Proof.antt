@@ -29,10 +29,12 @@ same-length c = search needs
 
 returns : tie.Need-returns
 returns c b h =
-    let a = c .before .before .before .before .before .before .before .before .before .before .before .args in
+    let after-put-plain = c .before .before in let after-enum-told = after-put-plain .before .before in let after-queue-of = after-enum-told .before .before in
+    let after-queue-type = after-queue-of .before in let start = after-queue-type .before .before .before .before in
+    let a = start .args in
     failed (a .ticket) invalidParameter h
-    (clear-unnamed (a .stream) (a .ticket) (now (a .frame)) b (named _ Neither (c .before .before .before .before .before .before .queue-of .ensures) (c .before .before .before .before .before .before .before .queue-type .ensures) (c .before .before .before .before .enum-told .given .1)))
-    (c .before .before .put-plain .ensures)
+    (clear-unnamed (a .stream) (a .ticket) (now (a .frame)) b (named _ Neither (after-queue-of .queue-of .ensures) (after-queue-type .queue-type .ensures) (after-enum-told .enum-told .given .1)))
+    (after-put-plain .put-plain .ensures)
 
 clear-queue-requires : tie.Need-clear-queue-requires
 clear-queue-requires c κs = search needs
@@ -45,9 +47,12 @@ same-length-3 c = search needs
 
 returns-2 : tie.Need-returns-2
 returns-2 c b h =
-    let a = c .before .before .before .before .before .before .before .before .before .before .before .before .before .before .before .args in
-    replied-as (clear-named (a .stream) (a .ticket) (now (a .frame)) b _ (named _ _ (c .before .before .before .before .before .before .before .before .before .before .queue-of .ensures) (c .before .before .before .before .before .before .before .before .before .before .before .queue-type .ensures) (c .before .before .before .before .before .before .before .before .target .given .1)))
-    (c .before .before .before .before .clear-queue .ensures b h)
+    let after-clear-queue = c .before .before .before .before in let after-target = after-clear-queue .before .before .before .before in
+    let after-queue-of = after-target .before .before in let after-queue-type = after-queue-of .before in
+    let start = after-queue-type .before .before .before .before in
+    let a = start .args in
+    replied-as (clear-named (a .stream) (a .ticket) (now (a .frame)) b _ (named _ _ (after-queue-of .queue-of .ensures) (after-queue-type .queue-type .ensures) (after-target .target .given .1)))
+    (after-clear-queue .clear-queue .ensures b h)
 
 pub clear-spec : {M : Type 1} → statement M
 clear-spec =

@@ -26,12 +26,13 @@ same-length c = search needs
 
 returns : tie.Need-returns
 returns c n b h =
-    let s = c .before .before .before .before .before .before .before .before .before .before .before .before .before .before in
-    let q = queueTypeOf (s .args .queue) in
-    let ended = drainAnswers (s .args .stream) (drainEnded q b) in
-    let itself = answerTo (s .args .ticket) (s .args .stream) success ∷ [] in
-    wrote-more (stoppedAnswers (s .args .stream) q (buffers q b)) (ended ++ itself) (c .before .before .before .before .before .before .before .before .before .before .stop-queue .ensures .1 n b h)
-    (wrote-more ended itself (c .before .before .before .before .before .before .ended-answer .ensures .1 n b h) (wrote-plain (s .args .ticket) (s .args .stream) 0x0200 success refl (c .before .before .put-plain .ensures)))
+    let after-put-plain = c .before .before in let after-ended-answer = after-put-plain .before .before .before .before in
+    let after-stop-queue = after-ended-answer .before .before .before .before in let start = after-stop-queue .before .before .before .before in
+    let q = queueTypeOf (start .args .queue) in
+    let ended = drainAnswers (start .args .stream) (drainEnded q b) in
+    let itself = answerTo (start .args .ticket) (start .args .stream) success ∷ [] in
+    wrote-more (stoppedAnswers (start .args .stream) q (buffers q b)) (ended ++ itself) (after-stop-queue .stop-queue .ensures .1 n b h)
+    (wrote-more ended itself (after-ended-answer .ended-answer .ensures .1 n b h) (wrote-plain (start .args .ticket) (start .args .stream) 0x0200 success refl (after-put-plain .put-plain .ensures)))
 
 pub clear-answers-spec : {M : Type 1} → statement M
 clear-answers-spec =

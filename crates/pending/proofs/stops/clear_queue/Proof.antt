@@ -16,7 +16,9 @@ same-length-2 : tie.Need-same-length-2
 same-length-2 c = search needs
 
 returns : tie.Need-returns
-returns c b h = record { words = c .before .before .clear-words .ensures _ b h; bytes = c .before .before .before .before .before .before .clear-answers .ensures _ b h }
+returns c b h =
+    let after-clear-words = c .before .before in let after-clear-answers = after-clear-words .before .before .before .before in
+    record { words = after-clear-words .clear-words .ensures _ b h; bytes = after-clear-answers .clear-answers .ensures _ b h }
 
 pub clear-queue-spec : {M : Type 1} → statement M
 clear-queue-spec =

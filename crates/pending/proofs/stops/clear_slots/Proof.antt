@@ -14,7 +14,9 @@ same-length : tie.Need-same-length
 same-length c = search needs
 
 returns : tie.Need-returns
-returns c Q e = c .before .before .drop-mark .ensures (withSlots (stopAll (Q .slots)) Q) (c .before .before .before .before .before .before .stop-all .ensures Q e)
+returns c Q e =
+    let after-drop-mark = c .before .before in let after-stop-all = after-drop-mark .before .before .before .before in
+    after-drop-mark .drop-mark .ensures (withSlots (stopAll (Q .slots)) Q) (after-stop-all .stop-all .ensures Q e)
 
 pub clear-slots-spec : {M : Type 1} → statement M
 clear-slots-spec = tie.close (tie.spec stop-all-requires drop-mark-requires same-length returns)

@@ -40,9 +40,12 @@ same-length c = search needs
 
 returns : tie.Need-returns
 returns c n b h =
-    let q = queueTypeOf (c .before .before .before .before .before .before .before .before .before .before .args .queue) in
+    let after-clear-slots = c .before .before in let after-queue-start = after-clear-slots .before .before in
+    let after-end-drain = after-queue-start .before .before .before in let start = after-end-drain .before .before .before in
+    let q = queueTypeOf (start .args .queue) in
     let x = withDrain (drainLeft q b) b in
-    queue-lent n x (queue-sized n b (slot-count h)) q _ (c .before .before .before .before .queue-start .ensures .1) _ (c .before .before .before .before .before .before .before .end-drain .ensures n b (h .held)) _ (cleared (queueOf q x)) (c .before .before .clear-slots .ensures (queueOf q x))
+    queue-lent n x (queue-sized n b (slot-count h)) q _ (after-queue-start .queue-start .ensures .1) _ (after-end-drain .end-drain .ensures n b (h .held)) _
+    (cleared (queueOf q x)) (after-clear-slots .clear-slots .ensures (queueOf q x))
     ∙ ap (λ (y : Queue). placeWords (occupied n (withQueue q (cleared y) x))) (queue-kept q (drainLeft q b) b)
 
 pub clear-words-spec : {M : Type 1} → statement M

@@ -21,9 +21,10 @@ same-length-2 c = search needs
 
 returns : tie.Need-returns
 returns c b h =
-    let s = c .before .before .before .before .before .before .before .before .before .before .before .before in
-    replied (destroyAnswers (s .args .stream) (s .args .ticket) b) none (destroy-is (s .args .stream) (s .args .ticket) (s .args .frame .now) b)
-    (c .before .before .free-stream .ensures) (c .before .before .before .before .before .before .destroy-answers .ensures _ b h)
+    let after-free-stream = c .before .before in let after-destroy-answers = after-free-stream .before .before .before .before in
+    let start = after-destroy-answers .before .before .before .before .before .before in
+    replied (destroyAnswers (start .args .stream) (start .args .ticket) b) none (destroy-is (start .args .stream) (start .args .ticket) (start .args .frame .now) b)
+    (after-free-stream .free-stream .ensures) (after-destroy-answers .destroy-answers .ensures _ b h)
 
 pub destroy-spec : {M : Type 1} → statement M
 destroy-spec =

@@ -28,13 +28,15 @@ same-length c = search needs
 
 returns : tie.Need-returns
 returns c n b h =
-    let s = c .before .before .before .before .before .before .before .before .before .before .before .before .before .before .before .before .before .before in
-    let outputs = stoppedAnswers (s .args .stream) output (buffers output b) in
-    let drain = drainAnswers (s .args .stream) (b .draining) in
-    let itself = answerTo (s .args .ticket) (s .args .stream) success ∷ [] in
-    wrote-more (stoppedAnswers (s .args .stream) input (buffers input b)) (outputs ++ (drain ++ itself)) (c .before .before .before .before .before .before .before .before .before .before .before .before .before .before .stop-queue .ensures .1 n b h)
-    (wrote-more outputs (drain ++ itself) (c .before .before .before .before .before .before .before .before .before .before .stop-queue2 .ensures .1 n b h)
-    (wrote-more drain itself (c .before .before .before .before .before .before .drain-answer .ensures .1 n b h) (wrote-plain (s .args .ticket) (s .args .stream) 0x0200 success refl (c .before .before .put-plain .ensures))))
+    let after-put-plain = c .before .before in let after-drain-answer = after-put-plain .before .before .before .before in
+    let after-stop-queue2 = after-drain-answer .before .before .before .before in let after-stop-queue = after-stop-queue2 .before .before .before .before in
+    let start = after-stop-queue .before .before .before .before in
+    let outputs = stoppedAnswers (start .args .stream) output (buffers output b) in
+    let drain = drainAnswers (start .args .stream) (b .draining) in
+    let itself = answerTo (start .args .ticket) (start .args .stream) success ∷ [] in
+    wrote-more (stoppedAnswers (start .args .stream) input (buffers input b)) (outputs ++ (drain ++ itself)) (after-stop-queue .stop-queue .ensures .1 n b h)
+    (wrote-more outputs (drain ++ itself) (after-stop-queue2 .stop-queue2 .ensures .1 n b h)
+    (wrote-more drain itself (after-drain-answer .drain-answer .ensures .1 n b h) (wrote-plain (start .args .ticket) (start .args .stream) 0x0200 success refl (after-put-plain .put-plain .ensures))))
 
 pub destroy-answers-spec : {M : Type 1} → statement M
 destroy-answers-spec =

@@ -26,10 +26,12 @@ same-length : tie.Need-same-length
 same-length c = search needs
 
 returns-2 : tie.Need-returns-2
-returns-2 c = (
-  omega (arith, plain-next _ _ _ (c .before .before .put-plain .ensures)),
-  λ n b h. wrote-drain _ _ (b .draining) (ap drainOf (sym (c .before .before .before .before .before .drain .given .1)) ∙ c .before .before .before .before .before .before .before .drain-owed .ensures n b (h .held)) (c .before .before .put-plain .ensures),
-)
+returns-2 c =
+    let after-put-plain = c .before .before in let after-drain = after-put-plain .before .before .before in
+    let after-drain-owed = after-drain .before .before in (
+      omega (arith, plain-next _ _ _ (after-put-plain .put-plain .ensures)),
+      λ n b h. wrote-drain _ _ (b .draining) (ap drainOf (sym (after-drain .drain .given .1)) ∙ after-drain-owed .drain-owed .ensures n b (h .held)) (after-put-plain .put-plain .ensures),
+    )
 
 pub drain-answer-spec : {M : Type 1} → statement M
 drain-answer-spec =

@@ -22,7 +22,9 @@ same-length : tie.Need-same-length
 same-length c = search needs
 
 returns-2 : tie.Need-returns-2
-returns-2 c n b e = c .before .before .drop-drain .ensures n b e ∙ left-input n _ b (ap queueTypeOf (c .before .before .before .before .enum-told .given .1))
+returns-2 c n b e =
+    let after-drop-drain = c .before .before in let after-enum-told = after-drop-drain .before .before in
+    after-drop-drain .drop-drain .ensures n b e ∙ left-input n _ b (ap queueTypeOf (after-enum-told .enum-told .given .1))
 
 pub end-drain-spec : {M : Type 1} → statement M
 end-drain-spec =

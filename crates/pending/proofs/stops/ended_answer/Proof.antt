@@ -23,7 +23,9 @@ same-length : tie.Need-same-length
 same-length c = search needs
 
 returns-2 : tie.Need-returns-2
-returns-2 c = (c .before .before .drain-answer .ensures .0, λ n b h. wrote-ended _ _ b (ap queueTypeOf (c .before .before .before .before .enum-told .given .1)) (c .before .before .drain-answer .ensures .1 n b h))
+returns-2 c =
+    let after-drain-answer = c .before .before in let after-enum-told = after-drain-answer .before .before in
+    (after-drain-answer .drain-answer .ensures .0, λ n b h. wrote-ended _ _ b (ap queueTypeOf (after-enum-told .enum-told .given .1)) (after-drain-answer .drain-answer .ensures .1 n b h))
 
 pub ended-answer-spec : {M : Type 1} → statement M
 ended-answer-spec =

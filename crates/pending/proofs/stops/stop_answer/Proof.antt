@@ -19,10 +19,13 @@ same-length : tie.Need-same-length
 same-length c = search needs
 
 returns : tie.Need-returns
-returns c = (
-  buffer-next _ _ _ _ input (c .before .before .put-buffer .ensures input),
-  λ Q t i e p u. wrote-stopped _ _ _ t i (c .before .before .before .before .before .slot-ticket .ensures Q e ∙ sym p) (c .before .before .before .before .slot-timestamp .ensures Q e ∙ sym u) (c .before .before .put-buffer .ensures t),
-)
+returns c =
+    let after-put-buffer = c .before .before in let after-slot-timestamp = after-put-buffer .before .before in
+    let after-slot-ticket = after-slot-timestamp .before in (
+      buffer-next _ _ _ _ input (after-put-buffer .put-buffer .ensures input),
+      λ Q t i e p u. wrote-stopped _ _ _ t i (after-slot-ticket .slot-ticket .ensures Q e ∙ sym p) (after-slot-timestamp .slot-timestamp .ensures Q e ∙ sym u)
+          (after-put-buffer .put-buffer .ensures t),
+    )
 
 pub stop-answer-spec : {M : Type 1} → statement M
 stop-answer-spec =

@@ -50,7 +50,9 @@ stop-answer-requires : tie.Need-stop-answer-requires Inv-loop μ-loop
 stop-answer-requires c κs = (search needs, within-at 16 (c .before .before .found .given .1) (c .before .before .before .before .next-queued .ensures .0), omega arith)
 
 slot-number-requires : tie.Need-slot-number-requires Inv-loop μ-loop
-slot-number-requires c κs = (search needs, within-at 16 (c .before .before .before .before .before .found .given .1) (c .before .before .before .before .before .before .before .next-queued .ensures .0))
+slot-number-requires c κs =
+    let after-found = c .before .before .before .before .before in let after-next-queued = after-found .before .before in
+    (search needs, within-at 16 (after-found .found .given .1) (after-next-queued .next-queued .ensures .0))
 
 cast-least : tie.Need-cast-least Inv-loop μ-loop
 cast-least c = search needs
@@ -65,15 +67,17 @@ loop-less : tie.Need-loop-less Inv-loop μ-loop
 loop-less c = search needs
 
 loop-again : tie.Need-loop-again Inv-loop μ-loop
-loop-again c = (
-  omega arith,
-  omega (arith, c .before .before .before .stop-answer .ensures .0),
-  search needs,
-  λ Q t z e.
-      along-next _ t (Q .slots) (c .before .before .before .before .before .before .before .before .before .before .loop .inv .3 Q t z e) _ _ (c .slot-number .ensures Q e) (distinct-of (Q .slots) z)
-      (sym (c .before .before .before .before .before .before .before .before .next-queued .ensures .1 Q e) ∙ ap foundAt (c .before .before .before .before .before .before .found .given .1))
-      (λ i p u. c .before .before .before .stop-answer .ensures .1 Q t i e p u),
-)
+loop-again c =
+    let after-stop-answer = c .before .before .before in let after-found = after-stop-answer .before .before .before in
+    let after-next-queued = after-found .before .before in let at-loop = after-next-queued .before .before in (
+      omega arith,
+      omega (arith, after-stop-answer .stop-answer .ensures .0),
+      search needs,
+      λ Q t z e.
+          along-next _ t (Q .slots) (at-loop .loop .inv .3 Q t z e) _ _ (c .slot-number .ensures Q e) (distinct-of (Q .slots) z)
+          (sym (after-next-queued .next-queued .ensures .1 Q e) ∙ ap foundAt (after-found .found .given .1))
+          (λ i p u. after-stop-answer .stop-answer .ensures .1 Q t i e p u),
+    )
 
 same-length-2 : tie.Need-same-length-2 Inv-loop μ-loop
 same-length-2 c = search needs

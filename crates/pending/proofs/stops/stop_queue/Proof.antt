@@ -32,12 +32,14 @@ same-length : tie.Need-same-length
 same-length c = search needs
 
 returns : tie.Need-returns
-returns c = (
-  c .before .before .stop-answers .ensures .0,
-  λ n b h.
-      let q = queueTypeOf (c .before .before .before .before .before .before .before .before .args .queue) in
-      c .before .before .stop-answers .ensures .1 (queueOf q b) q (of-distinct (queueOf q b .slots) (apart h q)) (queue-words h q _ (c .before .before .before .before .before .queue-start .ensures .1)),
-)
+returns c =
+    let after-stop-answers = c .before .before in let after-queue-start = after-stop-answers .before .before .before in
+    let start = after-queue-start .before .before .before in (
+      after-stop-answers .stop-answers .ensures .0,
+      λ n b h.
+          let q = queueTypeOf (start .args .queue) in
+          after-stop-answers .stop-answers .ensures .1 (queueOf q b) q (of-distinct (queueOf q b .slots) (apart h q)) (queue-words h q _ (after-queue-start .queue-start .ensures .1)),
+    )
 
 pub stop-queue-spec : {M : Type 1} → statement M
 stop-queue-spec =

@@ -16,8 +16,9 @@ enum-known-found : tie.Need-enum-known-found
 enum-known-found c = search needs
 
 slice-aggregate-virtio-video-command : tie.Need-slice-aggregate-virtio-video-command
-slice-aggregate-virtio-video-command c = let s = c .before .before .before .before .before .before .before .before in
-    sym (length-take-le _ _ (subst (λ (f : Frame). countIn f ≤ length (now (s .args .frame))) (c .before .before .before .found .given .1) (s .pre)))
+slice-aggregate-virtio-video-command c =
+    let after-found = c .before .before .before in let start = after-found .before .before .before .before .before in
+    sym (length-take-le _ _ (subst (λ (f : Frame). countIn f ≤ length (now (start .args .frame))) (after-found .found .given .1) (start .pre)))
 
 virtio-video-command-requires : tie.Need-virtio-video-command-requires
 virtio-video-command-requires c κs = search needs
@@ -41,9 +42,11 @@ same-length-2 : tie.Need-same-length-2
 same-length-2 c = search needs
 
 returns : tie.Need-returns
-returns c = let s = c .before .before .before .before .before .before .before .before .before .before .before .before .before .before in
-    c .before .before .before .before .virtio-video-command .ensures
-    ∙ ap (λ (f : Frame). effect layout (now (s .args .table)) (framed f (now (s .args .frame))) (now (s .args .answers))) (sym (c .before .before .before .before .before .before .before .before .before .found .given .1))
+returns c =
+    let after-virtio-video-command = c .before .before .before .before in
+    let after-found = after-virtio-video-command .before .before .before .before .before in let start = after-found .before .before .before .before .before in
+    after-virtio-video-command .virtio-video-command .ensures
+    ∙ ap (λ (f : Frame). effect layout (now (start .args .table)) (framed f (now (start .args .frame))) (now (start .args .answers))) (sym (after-found .found .given .1))
 
 same-length-3 : tie.Need-same-length-3
 same-length-3 c = search needs
@@ -52,9 +55,11 @@ same-length-4 : tie.Need-same-length-4
 same-length-4 c = search needs
 
 returns-2 : tie.Need-returns-2
-returns-2 c = let s = c .before .before .before .before .before .before .before .before .before .before .before .before .before in
-    c .before .before .before .before .virtio-video-finish .ensures
-    ∙ ap (λ (f : Frame). effect layout (now (s .args .table)) (framed f (now (s .args .frame))) (now (s .args .answers))) (sym (c .before .before .before .before .before .before .before .before .found2 .given .1))
+returns-2 c =
+    let after-virtio-video-finish = c .before .before .before .before in let after-found2 = after-virtio-video-finish .before .before .before .before in
+    let start = after-found2 .before .before .before .before .before in
+    after-virtio-video-finish .virtio-video-finish .ensures
+    ∙ ap (λ (f : Frame). effect layout (now (start .args .table)) (framed f (now (start .args .frame))) (now (start .args .answers))) (sym (after-found2 .found2 .given .1))
 
 same-length-5 : tie.Need-same-length-5
 same-length-5 c = search needs
@@ -63,9 +68,11 @@ same-length-6 : tie.Need-same-length-6
 same-length-6 c = search needs
 
 returns-3 : tie.Need-returns-3
-returns-3 c = let s = c .before .before .before .before .before .before .before .before .before .before .before .before .before in
-    c .before .before .before .before .virtio-video-drained .ensures
-    ∙ ap (λ (f : Frame). effect layout (now (s .args .table)) (framed f (now (s .args .frame))) (now (s .args .answers))) (sym (c .before .before .before .before .before .before .before .before .found3 .given .1))
+returns-3 c =
+    let after-virtio-video-drained = c .before .before .before .before in let after-found3 = after-virtio-video-drained .before .before .before .before in
+    let start = after-found3 .before .before .before .before .before in
+    after-virtio-video-drained .virtio-video-drained .ensures
+    ∙ ap (λ (f : Frame). effect layout (now (start .args .table)) (framed f (now (start .args .frame))) (now (start .args .answers))) (sym (after-found3 .found3 .given .1))
 
 pub carry-out-spec : {M : Type 1} → statement M
 carry-out-spec =

@@ -18,9 +18,14 @@ same-length : tie.Need-same-length
 same-length c = search needs
 
 returns : tie.Need-returns
-returns c = let s = c .before .before .before .before .before .before .before .before .before .before .before .before in
-    let g = c .before .before .before .before .gather in
-    ((g .ensures .0, omega arith), call-open layout (now (s .args .table)) (take (s .args .have) (now (s .args .held))) (now (s .args .piece)) _ (now (s .args .out)) (g .result .ended) (g .result .used) (g .result .have) (g .ensures .1 .0) (not-true _ (c .if1 .taken)))
+returns c =
+    let after-gather = c .before .before .before .before in let after-slice-known2 = after-gather .before .before .before .before .before .before in
+    let start = after-slice-known2 .before .before in
+    let g = after-gather .gather in (
+      (g .ensures .0, omega arith),
+      call-open layout (now (start .args .table)) (take (start .args .have) (now (start .args .held))) (now (start .args .piece)) _ (now (start .args .out))
+          (g .result .ended) (g .result .used) (g .result .have) (g .ensures .1 .0) (not-true _ (c .if1 .taken)),
+    )
 
 slice-reshare-prefix-log-line : tie.Need-slice-reshare-prefix-log-line
 slice-reshare-prefix-log-line c = search needs
@@ -47,9 +52,15 @@ same-length-6 : tie.Need-same-length-6
 same-length-6 c = search needs
 
 returns-2 : tie.Need-returns-2
-returns-2 c = let s = c .before .before .before .before .before .before .before .before .before .before .before .before .before .before .before .before .before .before .before .before .before .before .before .before .before .before in
-    let g = c .before .before .before .before .before .before .before .before .before .before .before .before .before .before .before .before .before .before .gather in
-    ((omega arith, omega (arith, c .before .before .before .before .before .before .before .before .log-line .ensures .0)), call-ended layout (now (s .args .table)) (take (s .args .have) (now (s .args .held))) (now (s .args .piece)) _ (now (s .args .out)) (g .result .ended) (g .result .used) (g .result .have) (g .ensures .1 .0) (not-false _ (c .before .before .before .before .before .before .before .before .before .before .before .before .before .before .if1 .left)) (c .before .before .before .before .before .before .before .before .log-line .ensures .1))
+returns-2 c =
+    let after-slice-known7 = c .before .before .before .before .before .before in let after-log-line = after-slice-known7 .before .before in
+    let else1 = after-log-line .before .before .before .before .before .before in let after-gather = else1 .before .before .before .before in
+    let after-slice-known2 = after-gather .before .before .before .before .before .before in let start = after-slice-known2 .before .before in
+    let g = after-gather .gather in (
+      (omega arith, omega (arith, after-log-line .log-line .ensures .0)),
+      call-ended layout (now (start .args .table)) (take (start .args .have) (now (start .args .held))) (now (start .args .piece)) _ (now (start .args .out))
+          (g .result .ended) (g .result .used) (g .result .have) (g .ensures .1 .0) (not-false _ (else1 .if1 .left)) (after-log-line .log-line .ensures .1),
+    )
 
 pub feed-spec : {M : Type 1} → statement M
 feed-spec =

@@ -12,7 +12,9 @@ returns : tie.Need-returns
 returns c = let a = c .before .before .before .args in (omega arith, end-empty layout (a .table .now) (a .held .now) (a .have) (c .if1 .taken))
 
 slice-aggregate-log-line : tie.Need-slice-aggregate-log-line
-slice-aggregate-log-line c = sym (length-take-le _ _ (c .before .before .before .before .before .pre))
+slice-aggregate-log-line c =
+    let start = c .before .before .before .before .before in
+    sym (length-take-le _ _ (start .pre))
 
 log-line-requires : tie.Need-log-line-requires
 log-line-requires c κs = search needs
@@ -22,8 +24,10 @@ same-length c = search needs
 
 returns-2 : tie.Need-returns-2
 returns-2 c =
-    let a = c .before .before .before .before .before .before .before .before .before in
-    (c .before .before .log-line .ensures .0, end-line layout (a .args .table .now) (a .args .held .now) (a .args .have) (c .before .before .before .before .before .before .if1 .left) (a .pre) (c .before .before .log-line .ensures .1))
+    let after-log-line = c .before .before in let else1 = after-log-line .before .before .before .before in let start = else1 .before .before .before in (
+      after-log-line .log-line .ensures .0,
+      end-line layout (start .args .table .now) (start .args .held .now) (start .args .have) (else1 .if1 .left) (start .pre) (after-log-line .log-line .ensures .1),
+    )
 
 pub finish-spec : {M : Type 1} → statement M
 finish-spec =

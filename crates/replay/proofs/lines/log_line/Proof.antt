@@ -31,30 +31,55 @@ same-length-2 : tie.Need-same-length-2
 same-length-2 c = search needs
 
 returns : tie.Need-returns
-returns c = let s = c .before .before .before .before .before .before .before .before .before .before .before .before .before .before .before in
-    (omega (arith, c .before .before .put-refusal .ensures .0), logged-refused layout (now (s .args .table)) (now (s .args .line)) 7 (sym (c .before .before .before .before .before .before .before .before .decode .ensures .1 .0) ∙ ap (λ (d : Decoded). decoded d (c .before .before .before .before .before .before .before .before .decode .last .1 .0)) (c .before .before .before .before .enum-told .given .1)) (c .before .before .put-refusal .ensures .1))
+returns c =
+    let after-put-refusal = c .before .before in let after-enum-told = after-put-refusal .before .before in
+    let after-decode = after-enum-told .before .before .before .before in
+    let after-slice-known = after-decode .before .before .before .before .before .before in let start = after-slice-known .before in (
+      omega (arith, after-put-refusal .put-refusal .ensures .0),
+      logged-refused layout (now (start .args .table)) (now (start .args .line)) 7
+          (sym (after-decode .decode .ensures .1 .0) ∙ ap (λ (d : Decoded). decoded d (after-decode .decode .last .1 .0)) (after-enum-told .enum-told .given .1))
+          (after-put-refusal .put-refusal .ensures .1),
+    )
 
 carry-out-requires : tie.Need-carry-out-requires
-carry-out-requires c κs = let fits = subst (λ (d : Decoded). countOf d ≤ 4184) (c .before .before .before .before .decoded .given .1) (c .before .before .before .before .before .before .before .before .decode .ensures .0) in
+carry-out-requires c κs =
+    let after-decoded = c .before .before .before .before in let after-decode = after-decoded .before .before .before .before in
+    let fits = subst (λ (d : Decoded). countOf d ≤ 4184) (after-decoded .decoded .given .1) (after-decode .decode .ensures .0) in
     omega (arith, fits)
 
 cast-written : tie.Need-cast-written
 cast-written c = search needs
 
 slice-reshare-prefix-put-outcome : tie.Need-slice-reshare-prefix-put-outcome
-slice-reshare-prefix-put-outcome c = let s = c .before .before .before .before .before .before .before .before .before .before .before .before .before .before .before .before .before .before .before .before .before in
-    let is = sym (c .before .before .before .before .before .before .before .before .before .before .before .before .before .before .decode .ensures .1 .0) ∙ ap (λ (d : Decoded). decoded d (c .before .before .before .before .before .before .before .before .before .before .before .before .before .before .decode .last .1 .0)) (c .before .before .before .before .before .before .before .before .before .before .decoded .given .1) in
-    omega (arith, few layout (now (s .args .table)) (now (s .args .line)) (now (s .args .answers)) _ is (s .pre .1) _ _ _ _ (c .before .before .before .before .before .carry-out .ensures))
+slice-reshare-prefix-put-outcome c =
+    let after-carry-out = c .before .before .before .before .before in let after-decoded = after-carry-out .before .before .before .before .before in
+    let after-decode = after-decoded .before .before .before .before in let after-slice-known = after-decode .before .before .before .before .before .before in
+    let start = after-slice-known .before in
+    let is = sym (after-decode .decode .ensures .1 .0) ∙ ap (λ (d : Decoded). decoded d (after-decode .decode .last .1 .0)) (after-decoded .decoded .given .1) in
+    omega (arith, few layout (now (start .args .table)) (now (start .args .line)) (now (start .args .answers)) _ is (start .pre .1) _ _ _ _ (after-carry-out .carry-out .ensures))
 
 slice-aggregate-put-outcome : tie.Need-slice-aggregate-put-outcome
-slice-aggregate-put-outcome c = let s = c .before .before .before .before .before .before .before .before .before .before .before .before .before .before .before .before .before .before .before .before .before .before in
-    let is = sym (c .before .before .before .before .before .before .before .before .before .before .before .before .before .before .before .decode .ensures .1 .0) ∙ ap (λ (d : Decoded). decoded d (c .before .before .before .before .before .before .before .before .before .before .before .before .before .before .before .decode .last .1 .0)) (c .before .before .before .before .before .before .before .before .before .before .before .decoded .given .1) in
-    sym (length-take-le _ _ (omega (arith, few layout (now (s .args .table)) (now (s .args .line)) (now (s .args .answers)) _ is (s .pre .1) _ _ _ _ (c .before .before .before .before .before .before .carry-out .ensures))))
+slice-aggregate-put-outcome c =
+    let after-carry-out = c .before .before .before .before .before .before in let after-decoded = after-carry-out .before .before .before .before .before in
+    let after-decode = after-decoded .before .before .before .before in let after-slice-known = after-decode .before .before .before .before .before .before in
+    let start = after-slice-known .before in
+    let is = sym (after-decode .decode .ensures .1 .0) ∙ ap (λ (d : Decoded). decoded d (after-decode .decode .last .1 .0)) (after-decoded .decoded .given .1) in
+    sym (length-take-le _ _
+    (omega (arith, few layout (now (start .args .table)) (now (start .args .line)) (now (start .args .answers)) _ is (start .pre .1) _ _ _ _ (after-carry-out .carry-out .ensures))))
 
 put-outcome-requires : tie.Need-put-outcome-requires
-put-outcome-requires c κs = let s = c .before .before .before .before .before .before .before .before .before .before .before .before .before .before .before .before .before .before .before .before .before .before .before in
-    let is = sym (c .before .before .before .before .before .before .before .before .before .before .before .before .before .before .before .before .decode .ensures .1 .0) ∙ ap (λ (d : Decoded). decoded d (c .before .before .before .before .before .before .before .before .before .before .before .before .before .before .before .before .decode .last .1 .0)) (c .before .before .before .before .before .before .before .before .before .before .before .before .decoded .given .1) in
-    (small layout (now (s .args .table)) (now (s .args .line)) (now (s .args .answers)) _ is (s .pre .1) _ _ _ _ (c .before .before .before .before .before .before .before .carry-out .ensures), whole layout (now (s .args .table)) (now (s .args .line)) (now (s .args .answers)) _ is (s .pre .1) _ _ _ _ (c .before .before .before .before .before .before .before .carry-out .ensures), omega arith, omega (arith, short layout (now (s .args .table)) (now (s .args .line)) (now (s .args .answers)) _ is (s .pre .1) _ _ _ _ (c .before .before .before .before .before .before .before .carry-out .ensures)))
+put-outcome-requires c κs =
+    let after-table = c .before .before .before .before .before .before in let after-carry-out = after-table .before in
+    let after-decoded = after-carry-out .before .before .before .before .before in let after-decode = after-decoded .before .before .before .before in
+    let after-slice-known = after-decode .before .before .before .before .before .before in let start = after-slice-known .before in
+    let is = sym (after-decode .decode .ensures .1 .0) ∙ ap (λ (d : Decoded). decoded d (after-decode .decode .last .1 .0)) (after-decoded .decoded .given .1) in (
+      small layout (now (start .args .table)) (now (start .args .line)) (now (start .args .answers)) _ is (start .pre .1) _ _ _ _
+          (after-carry-out .carry-out .ensures),
+      whole layout (now (start .args .table)) (now (start .args .line)) (now (start .args .answers)) _ is (start .pre .1) _ _ _ _
+          (after-carry-out .carry-out .ensures),
+      omega arith,
+      omega (arith, short layout (now (start .args .table)) (now (start .args .line)) (now (start .args .answers)) _ is (start .pre .1) _ _ _ _ (after-carry-out .carry-out .ensures)),
+    )
 
 same-length-3 : tie.Need-same-length-3
 same-length-3 c = search needs
@@ -69,9 +94,16 @@ same-length-6 : tie.Need-same-length-6
 same-length-6 c = search needs
 
 returns-2 : tie.Need-returns-2
-returns-2 c = let s = c .before .before .before .before .before .before .before .before .before .before .before .before .before .before .before .before .before .before .before .before .before .before .before .before .before .before in
-    let is = sym (c .before .before .before .before .before .before .before .before .before .before .before .before .before .before .before .before .before .before .before .decode .ensures .1 .0) ∙ ap (λ (d : Decoded). decoded d (c .before .before .before .before .before .before .before .before .before .before .before .before .before .before .before .before .before .before .before .decode .last .1 .0)) (c .before .before .before .before .before .before .before .before .before .before .before .before .before .before .before .decoded .given .1) in
-    (omega (arith, c .before .before .put-outcome .ensures .0), logged layout (now (s .args .table)) (now (s .args .line)) (now (s .args .answers)) _ is (s .pre .1) _ _ _ _ (c .before .before .before .before .before .before .before .before .before .before .carry-out .ensures) (c .before .before .put-outcome .ensures .1))
+returns-2 c =
+    let after-put-outcome = c .before .before in let after-slice-known7 = after-put-outcome .before .before .before .before .before .before in
+    let after-carry-out = after-slice-known7 .before .before in let after-decoded = after-carry-out .before .before .before .before .before in
+    let after-decode = after-decoded .before .before .before .before in let after-slice-known = after-decode .before .before .before .before .before .before in
+    let start = after-slice-known .before in
+    let is = sym (after-decode .decode .ensures .1 .0) ∙ ap (λ (d : Decoded). decoded d (after-decode .decode .last .1 .0)) (after-decoded .decoded .given .1) in (
+      omega (arith, after-put-outcome .put-outcome .ensures .0),
+      logged layout (now (start .args .table)) (now (start .args .line)) (now (start .args .answers)) _ is (start .pre .1) _ _ _ _
+          (after-carry-out .carry-out .ensures) (after-put-outcome .put-outcome .ensures .1),
+    )
 
 pub log-line-spec : {M : Type 1} → statement M
 log-line-spec =

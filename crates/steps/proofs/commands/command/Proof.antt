@@ -41,22 +41,30 @@ same-length c = search needs
 
 returns : tie.Need-returns
 returns c d h =
-    let a = c .before .before .before .before .before .before .before .before .before .before .before .before in
-    let f = a .args .frame .now in
-    let t = a .args .ticket in
-    of-stream (c .before .before .before .before .before .before .before .stream .ensures)
-    (failed h _ t f invalidOperation (unfit f invalidOperation (c .before .before .before .before .before .before .before .before .kind .ensures) (sym (c .before .before .before .before .before .before .length-check .ensures) ∙ ap lengthError (c .before .before .before .before .enum-told .given .1)) (around d) _ t _) (c .before .before .put-plain .ensures))
+    let after-put-plain = c .before .before in let after-enum-told = after-put-plain .before .before in
+    let after-length-check = after-enum-told .before .before in let after-stream = after-length-check .before in let after-kind = after-stream .before in
+    let start = after-kind .before .before .before .before in
+    let f = start .args .frame .now in
+    let t = start .args .ticket in
+    of-stream (after-stream .stream .ensures)
+    (failed h _ t f invalidOperation
+    (unfit f invalidOperation (after-kind .kind .ensures)
+    (sym (after-length-check .length-check .ensures) ∙ ap lengthError (after-enum-told .enum-told .given .1)) (around d) _ t _) (after-put-plain .put-plain .ensures))
 
 same-length-2 : tie.Need-same-length-2
 same-length-2 c = search needs
 
 returns-2 : tie.Need-returns-2
 returns-2 c d h =
-    let a = c .before .before .before .before .before .before .before .before .before .before .before .before in
-    let f = a .args .frame .now in
-    let t = a .args .ticket in
-    of-stream (c .before .before .before .before .before .before .before .stream .ensures)
-    (failed h _ t f invalidParameter (unfit f invalidParameter (c .before .before .before .before .before .before .before .before .kind .ensures) (sym (c .before .before .before .before .before .before .length-check .ensures) ∙ ap lengthError (c .before .before .before .before .enum-told2 .given .1)) (around d) _ t _) (c .before .before .put-plain2 .ensures))
+    let after-put-plain2 = c .before .before in let after-enum-told2 = after-put-plain2 .before .before in
+    let after-length-check = after-enum-told2 .before .before in let after-stream = after-length-check .before in let after-kind = after-stream .before in
+    let start = after-kind .before .before .before .before in
+    let f = start .args .frame .now in
+    let t = start .args .ticket in
+    of-stream (after-stream .stream .ensures)
+    (failed h _ t f invalidParameter
+    (unfit f invalidParameter (after-kind .kind .ensures)
+    (sym (after-length-check .length-check .ensures) ∙ ap lengthError (after-enum-told2 .enum-told2 .given .1)) (around d) _ t _) (after-put-plain2 .put-plain2 .ensures))
 
 same-length-3 : tie.Need-same-length-3
 same-length-3 c = search needs
@@ -65,7 +73,9 @@ same-length-4 : tie.Need-same-length-4
 same-length-4 c = search needs
 
 returns-3 : tie.Need-returns-3
-returns-3 c d h = of-stream (c .before .before .before .before .before .before .before .before .before .before .stream .ensures) (c .before .before .before .before .known .ensures d h)
+returns-3 c d h =
+    let after-known = c .before .before .before .before in let after-stream = after-known .before .before .before .before .before .before in
+    of-stream (after-stream .stream .ensures) (after-known .known .ensures d h)
 
 pub command-spec : {M : Type 1} → statement M
 command-spec =

@@ -35,11 +35,12 @@ same-length-2 c = search needs
 
 returns : tie.Need-returns
 returns c d h =
-    let a = c .before .before .before .before .before .before .before .before .before .before .before in
-    let b = was-live h (c .before .before .before .before .before .before .find-stream .ensures .1) _ (c .before .before .before .before .enum-told2 .given .1) in
-    failed h (a .args .stream) (a .args .ticket) (a .args .frame .now) invalidStream
-    (create-live (a .pre .1) (around d) (a .args .stream) (a .args .ticket) _ (b .0) (b .1))
-    (c .before .before .put-plain .ensures)
+    let after-put-plain = c .before .before in let after-enum-told2 = after-put-plain .before .before in
+    let after-find-stream = after-enum-told2 .before .before in let start = after-find-stream .before .before .before .before .before in
+    let b = was-live h (after-find-stream .find-stream .ensures .1) _ (after-enum-told2 .enum-told2 .given .1) in
+    failed h (start .args .stream) (start .args .ticket) (start .args .frame .now) invalidStream
+    (create-live (start .pre .1) (around d) (start .args .stream) (start .args .ticket) _ (b .0) (b .1))
+    (after-put-plain .put-plain .ensures)
 
 creation-good-requires : tie.Need-creation-good-requires
 creation-good-requires c κs = search needs
@@ -55,11 +56,13 @@ same-length-4 c = search needs
 
 returns-2 : tie.Need-returns-2
 returns-2 c d h =
-    let a = c .before .before .before .before .before .before .before .before .before .before .before .before .before in
-    failed h (a .args .stream) (a .args .ticket) (a .args .frame .now) invalidParameter
-    (create-bad (a .pre .1) (around d) (a .args .stream) (a .args .ticket) _ (was-missing h (c .before .before .before .before .before .before .before .before .find-stream .ensures .1) (c .before .before .before .before .before .before .enum-told .given .1))
-    (refused (c .before .before .before .before .before .creation-good .ensures) (c .before .before .before .before .if1 .taken)))
-    (c .before .before .put-plain2 .ensures)
+    let after-put-plain2 = c .before .before in let then1 = after-put-plain2 .before .before in let after-creation-good = then1 .before in
+    let after-enum-told = after-creation-good .before in let after-find-stream = after-enum-told .before .before in
+    let start = after-find-stream .before .before .before .before .before in
+    failed h (start .args .stream) (start .args .ticket) (start .args .frame .now) invalidParameter
+    (create-bad (start .pre .1) (around d) (start .args .stream) (start .args .ticket) _ (was-missing h (after-find-stream .find-stream .ensures .1) (after-enum-told .enum-told .given .1))
+    (refused (after-creation-good .creation-good .ensures) (then1 .if1 .taken)))
+    (after-put-plain2 .put-plain2 .ensures)
 
 find-vacant-requires : tie.Need-find-vacant-requires
 find-vacant-requires c κs = search needs
@@ -81,11 +84,14 @@ same-length-6 c = search needs
 
 returns-3 : tie.Need-returns-3
 returns-3 c d h =
-    let a = c .before .before .before .before .before .before .before .before .before .before .before .before .before .before .before .before .before in
-    failed h (a .args .stream) (a .args .ticket) (a .args .frame .now) outOfMemory
-    (create-full (a .pre .1) (around d) (a .args .stream) (a .args .ticket) _ (was-missing h (c .before .before .before .before .before .before .before .before .before .before .before .before .find-stream .ensures .1) (c .before .before .before .before .before .before .before .before .before .before .enum-told .given .1))
-    (passed (c .before .before .before .before .before .before .before .before .before .creation-good .ensures) (c .before .before .before .before .before .before .before .before .if1 .left)) (was-full h (c .before .before .before .before .before .before .find-vacant .ensures .1) (c .before .before .before .before .enum-told3 .given .1)))
-    (c .before .before .put-plain3 .ensures)
+    let after-put-plain3 = c .before .before in let after-enum-told3 = after-put-plain3 .before .before in
+    let after-find-vacant = after-enum-told3 .before .before in let else1 = after-find-vacant .before .before in let after-creation-good = else1 .before in
+    let after-enum-told = after-creation-good .before in let after-find-stream = after-enum-told .before .before in
+    let start = after-find-stream .before .before .before .before .before in
+    failed h (start .args .stream) (start .args .ticket) (start .args .frame .now) outOfMemory
+    (create-full (start .pre .1) (around d) (start .args .stream) (start .args .ticket) _ (was-missing h (after-find-stream .find-stream .ensures .1) (after-enum-told .enum-told .given .1))
+    (passed (after-creation-good .creation-good .ensures) (else1 .if1 .left)) (was-full h (after-find-vacant .find-vacant .ensures .1) (after-enum-told3 .enum-told3 .given .1)))
+    (after-put-plain3 .put-plain3 .ensures)
 
 mul-at : tie.Need-mul-at
 mul-at c = omega (arith, found-within (c .before .place .given .1) (c .before .before .before .find-vacant .ensures .0))
@@ -122,18 +128,22 @@ same-length-8 c = search needs
 
 returns-4 : tie.Need-returns-4
 returns-4 c d h =
-    let a = c .before .before .before .before .before .before .before .before .before .before .before .before .before .before .before .before .before .before .before .before .before .before .before in
-    let n = a .args .stream in
-    let t = a .args .ticket in
-    let f = a .args .frame .now in
-    let e = c .before .before .before .before .before .before .before .before .before .before .place .given .1 in
-    let v = c .before .before .before .before .before .before .before .before .before .before .before .before .find-vacant .ensures in
-    let new = was-missing h (c .before .before .before .before .before .before .before .before .before .before .before .before .before .before .before .before .before .before .find-stream .ensures .1) (c .before .before .before .before .before .before .before .before .before .before .before .before .before .before .before .before .enum-told .given .1) in
+    let after-put-plain4 = c .before .before in let after-new-stream = after-put-plain4 .before .before .before .before in
+    let after-coded-format = after-new-stream .before .before in let after-place = after-coded-format .before .before in
+    let after-find-vacant = after-place .before .before in let else1 = after-find-vacant .before .before in let after-creation-good = else1 .before in
+    let after-enum-told = after-creation-good .before in let after-find-stream = after-enum-told .before .before in
+    let start = after-find-stream .before .before .before .before .before in
+    let n = start .args .stream in
+    let t = start .args .ticket in
+    let f = start .args .frame .now in
+    let e = after-place .place .given .1 in
+    let v = after-find-vacant .find-vacant .ensures in
+    let new = was-missing h (after-find-stream .find-stream .ensures .1) (after-enum-told .enum-told .given .1) in
     let place = was-vacant h (v .1) _ e in
-    in-vacant h (a .pre .0) n _ (found-within e (v .0)) new place t f (newStream (codedFormat f))
-    (create-done (a .pre .1) (around d) n t _ new (passed (c .before .before .before .before .before .before .before .before .before .before .before .before .before .before .before .creation-good .ensures) (c .before .before .before .before .before .before .before .before .before .before .before .before .before .before .if1 .left)) (vacant-found d _ place .room))
-    (λ x. c .before .before .before .before .before .before .new-stream .ensures x ∙ ap (λ (m : ℕ). placeWords (occupied n (newStream m))) (c .before .before .before .before .before .before .before .before .coded-format .ensures))
-    (c .before .before .put-plain4 .ensures)
+    in-vacant h (start .pre .0) n _ (found-within e (v .0)) new place t f (newStream (codedFormat f))
+    (create-done (start .pre .1) (around d) n t _ new (passed (after-creation-good .creation-good .ensures) (else1 .if1 .left)) (vacant-found d _ place .room))
+    (λ x. after-new-stream .new-stream .ensures x ∙ ap (λ (m : ℕ). placeWords (occupied n (newStream m))) (after-coded-format .coded-format .ensures))
+    (after-put-plain4 .put-plain4 .ensures)
 
 pub create-spec : {M : Type 1} → statement M
 create-spec =

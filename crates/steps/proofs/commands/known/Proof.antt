@@ -19,7 +19,9 @@ same-length-2 : tie.Need-same-length-2
 same-length-2 c = search needs
 
 returns : tie.Need-returns
-returns c d h = c .before .before .before .before .create .ensures d h
+returns c d h =
+    let after-create = c .before .before .before .before in
+    after-create .create .ensures d h
 
 to-live-requires : tie.Need-to-live-requires
 to-live-requires c κs = (search needs, c .before .before .before .before .before .before .pre .1, c .before .before .if1 .left, search needs)
@@ -31,7 +33,9 @@ same-length-4 : tie.Need-same-length-4
 same-length-4 c = search needs
 
 returns-2 : tie.Need-returns-2
-returns-2 c d h = c .before .before .before .before .to-live .ensures d h
+returns-2 c d h =
+    let after-to-live = c .before .before .before .before in
+    after-to-live .to-live .ensures d h
 
 pub known-spec : {M : Type 1} → statement M
 known-spec =

@@ -28,10 +28,12 @@ same-length-2 c = search needs
 
 returns : tie.Need-returns
 returns c d h =
-    let a = c .before .before .before .before .before .before .before .before .before .before .before in
-    failed h (a .args .stream) (a .args .ticket) (a .args .frame .now) invalidStream
-    (not-live (a .pre .1) (a .pre .2) (around d) (a .args .stream) (a .args .ticket) _ (was-missing h (c .before .before .before .before .before .before .find-stream .ensures .1) (c .before .before .before .before .enum-told .given .1)))
-    (c .before .before .put-plain .ensures)
+    let after-put-plain = c .before .before in let after-enum-told = after-put-plain .before .before in
+    let after-find-stream = after-enum-told .before .before in let start = after-find-stream .before .before .before .before .before in
+    failed h (start .args .stream) (start .args .ticket) (start .args .frame .now) invalidStream
+    (not-live (start .pre .1) (start .pre .2) (around d) (start .args .stream) (start .args .ticket) _
+    (was-missing h (after-find-stream .find-stream .ensures .1) (after-enum-told .enum-told .given .1)))
+    (after-put-plain .put-plain .ensures)
 
 mul-start : tie.Need-mul-start
 mul-start c = omega (arith, found-within (c .before .found .given .1) (c .before .before .before .find-stream .ensures .0))
@@ -62,11 +64,12 @@ same-length-4 c = search needs
 
 returns-2 : tie.Need-returns-2
 returns-2 c d h =
-    let a = c .before .before .before .before .before .before .before .before .before .before .before .before .before .before .before in
-    let s = c .before .before .before .before .before .before .before .before .before .before .find-stream .ensures in
-    let e = c .before .before .before .before .before .before .before .before .found .given .1 in
-    in-block h (a .pre .0) (a .args .stream) _ (found-within e (s .0)) (was-found h (s .1) _ e) (command (a .args .ticket) (a .args .frame .now))
-    (λ b x. answered (around d) b (a .args .ticket) (a .args .frame .now) (c .before .before .before .before .live .ensures (around d) b x))
+    let after-live = c .before .before .before .before in let after-found = after-live .before .before .before .before in
+    let after-find-stream = after-found .before .before in let start = after-find-stream .before .before .before .before .before in
+    let s = after-find-stream .find-stream .ensures in
+    let e = after-found .found .given .1 in
+    in-block h (start .pre .0) (start .args .stream) _ (found-within e (s .0)) (was-found h (s .1) _ e) (command (start .args .ticket) (start .args .frame .now))
+    (λ b x. answered (around d) b (start .args .ticket) (start .args .frame .now) (after-live .live .ensures (around d) b x))
 
 pub to-live-spec : {M : Type 1} → statement M
 to-live-spec =

@@ -24,8 +24,10 @@ same-length c = search needs
 
 returns : tie.Need-returns
 returns c d h =
-    let a = c .before .before .before .before .before .before .before .args in
-    denied h _ (a .stream) _ 5 (c .refused .ensures) (no-drain (around d) (a .stream) _ (was-missing h (c .before .before .before .find-stream .ensures .1) (c .before .enum-told .given .1)))
+    let after-enum-told = c .before in let after-find-stream = after-enum-told .before .before in
+    let start = after-find-stream .before .before .before .before in
+    let a = start .args in
+    denied h _ (a .stream) _ 5 (c .refused .ensures) (no-drain (around d) (a .stream) _ (was-missing h (after-find-stream .find-stream .ensures .1) (after-enum-told .enum-told .given .1)))
 
 mul-start : tie.Need-mul-start
 mul-start c = omega (arith, found-within (c .before .place .given .1) (c .before .before .before .find-stream .ensures .0))
@@ -57,11 +59,12 @@ same-length-3 c = search needs
 returns-2 : tie.Need-returns-2
 unfolding serve
 returns-2 c d h =
-    let a = c .before .before .before .before .before .before .before .before .before .before .before .before .before .before in
-    let s = c .before .before .before .before .before .before .before .before .before .before .find-stream .ensures in
-    let e = c .before .before .before .before .before .before .before .before .place .given .1 in
-    in-block h (a .pre .0) (a .args .stream) _ (found-within e (s .0)) (was-found h (s .1) _ e) (drained (a .args .stream))
-    (c .before .before .before .before .drained .ensures)
+    let after-drained = c .before .before .before .before in let after-place = after-drained .before .before .before .before in
+    let after-find-stream = after-place .before .before in let start = after-find-stream .before .before .before .before in
+    let s = after-find-stream .find-stream .ensures in
+    let e = after-place .place .given .1 in
+    in-block h (start .pre .0) (start .args .stream) _ (found-within e (s .0)) (was-found h (s .1) _ e) (drained (start .args .stream))
+    (after-drained .drained .ensures)
 
 pub drained-spec : {M : Type 1} → statement M
 drained-spec =

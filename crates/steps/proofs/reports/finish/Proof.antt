@@ -12,8 +12,9 @@ refused-requires c κs = search needs
 
 returns : tie.Need-returns
 returns c d h =
-    let a = c .before .before .before .before .args in
-    denied h _ (a .stream) _ 6 (c .refused .ensures) (bad-flags (around d) (a .stream) (a .queue) (a .resource) (a .flags) (a .timestamp) _ (c .before .if1 .taken))
+    let then1 = c .before in let start = then1 .before .before .before in
+    let a = start .args in
+    denied h _ (a .stream) _ 6 (c .refused .ensures) (bad-flags (around d) (a .stream) (a .queue) (a .resource) (a .flags) (a .timestamp) _ (then1 .if1 .taken))
 
 find-stream-requires : tie.Need-find-stream-requires
 find-stream-requires c κs = search needs
@@ -32,8 +33,12 @@ same-length c = search needs
 
 returns-2 : tie.Need-returns-2
 returns-2 c d h =
-    let a = c .before .before .before .before .before .before .before .before .args in
-    denied h _ (a .stream) _ 5 (c .refused2 .ensures) (no-stream (around d) (a .stream) (a .queue) (a .resource) (a .flags) (a .timestamp) _ (c .before .before .before .before .before .if1 .left) (was-missing h (c .before .before .before .find-stream .ensures .1) (c .before .enum-told .given .1)))
+    let after-enum-told = c .before in let after-find-stream = after-enum-told .before .before in let else1 = after-find-stream .before .before in
+    let start = else1 .before .before .before in
+    let a = start .args in
+    denied h _ (a .stream) _ 5 (c .refused2 .ensures)
+    (no-stream (around d) (a .stream) (a .queue) (a .resource) (a .flags) (a .timestamp) _ (else1 .if1 .left)
+    (was-missing h (after-find-stream .find-stream .ensures .1) (after-enum-told .enum-told .given .1)))
 
 mul-at : tie.Need-mul-at
 mul-at c = omega (arith, found-within (c .before .found .given .1) (c .before .before .before .find-stream .ensures .0))
@@ -65,11 +70,13 @@ same-length-3 c = search needs
 returns-3 : tie.Need-returns-3
 unfolding serve
 returns-3 c d h =
-    let a = c .before .before .before .before .before .before .before .before .before .before .before .before .before .before .before in
-    let s = c .before .before .before .before .before .before .before .before .before .before .find-stream .ensures in
-    let e = c .before .before .before .before .before .before .before .before .found .given .1 in
-    in-block h (a .pre .0) (a .args .stream) _ (found-within e (s .0)) (was-found h (s .1) _ e) (finish (a .args .stream) (a .args .queue) (a .args .resource) (a .args .flags) (a .args .timestamp))
-    (c .before .before .before .before .finish .ensures)
+    let after-finish = c .before .before .before .before in let after-found = after-finish .before .before .before .before in
+    let after-find-stream = after-found .before .before in let start = after-find-stream .before .before .before .before .before in
+    let s = after-find-stream .find-stream .ensures in
+    let e = after-found .found .given .1 in
+    in-block h (start .pre .0) (start .args .stream) _ (found-within e (s .0)) (was-found h (s .1) _ e)
+    (finish (start .args .stream) (start .args .queue) (start .args .resource) (start .args .flags) (start .args .timestamp))
+    (after-finish .finish .ensures)
 
 pub finish-spec : {M : Type 1} → statement M
 finish-spec =
