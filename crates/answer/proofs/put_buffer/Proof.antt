@@ -37,13 +37,14 @@ same-length : tie.Need-same-length
 same-length c = search needs
 
 returns : tie.Need-returns
-returns c = λ q. let c₄ = c .before .before in
-    let c₃ = c₄ .before .before .before .before in
-    let c₂ = c₃ .before .before .before .before in
-    let c₁ = c₂ .before .before .before .before in
-    let a = c₁ .before .before .before .args in
+returns c =
+    let after-put-u322 = c .before .before in let after-put-u32 = after-put-u322 .before .before .before .before in
+    let after-put-u64 = after-put-u32 .before .before .before .before in let after-put-words = after-put-u64 .before .before .before .before in
+    let start = after-put-words .before .before .before in
+    λ q. let a = start .args in
     wrote-sets (a .at) 32 (bytesOf (answerTo (a .ticket) (a .stream) (bufferDone q (a .timestamp) (a .flags)) ∷ [])) (buffer-length (a .ticket) (a .stream) (a .timestamp) (a .flags) q)
-    (sets-buffer (now (a .out)) (a .at) (a .ticket) (a .stream) (a .timestamp) (a .flags) q (c₁ .put-words .ensures) (c₂ .put-u64 .ensures) (c₃ .put-u32 .ensures) (c₄ .put-u322 .ensures))
+    (sets-buffer (now (a .out)) (a .at) (a .ticket) (a .stream) (a .timestamp) (a .flags) q (after-put-words .put-words .ensures)
+    (after-put-u64 .put-u64 .ensures) (after-put-u32 .put-u32 .ensures) (after-put-u322 .put-u322 .ensures))
 
 pub put-buffer-spec : {M : Type 1} → statement M
 put-buffer-spec =

@@ -35,13 +35,13 @@ same-length c = search needs
 
 returns : tie.Need-returns
 unfolding pairs
-returns c = let c₄ = c .before .before in
-    let c₃ = c₄ .before .before .before .before in
-    let c₂ = c₃ .before .before .before .before in
-    let c₁ = c₂ .before .before .before .before in
-    let a = c₁ .before .before .before .args in
+returns c =
+    let after-put-words4 = c .before .before in let after-put-words3 = after-put-words4 .before .before .before .before in
+    let after-put-words2 = after-put-words3 .before .before .before .before in let after-put-words = after-put-words2 .before .before .before .before in
+    let start = after-put-words .before .before .before in
+    let a = start .args in
     sets-groups (now (a .out)) (a .at) (a .size0 ∷ a .stride0 ∷ a .size1 ∷ a .stride1 ∷ []) (replicate 4 0) (replicate 4 0) (replicate 4 0)
-    refl refl refl (c₁ .put-words .ensures) (c₂ .put-words2 .ensures) (c₃ .put-words3 .ensures) (c₄ .put-words4 .ensures)
+    refl refl refl (after-put-words .put-words .ensures) (after-put-words2 .put-words2 .ensures) (after-put-words3 .put-words3 .ensures) (after-put-words4 .put-words4 .ensures)
 
 pub put-pairs-spec : {M : Type 1} → statement M
 put-pairs-spec =

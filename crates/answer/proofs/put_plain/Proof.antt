@@ -18,8 +18,10 @@ same-length c = search needs
 
 returns : tie.Need-returns
 unfolding plainBytes
-returns c = let a = c .before .before .before .before .before .args in
-    wrote-sets {d = now (a .out)} (a .at) 16 (plainBytes (a .ticket) (a .code) (a .stream)) (plain-length (a .ticket) (a .code) (a .stream)) (c .before .before .put-words .ensures)
+returns c =
+    let after-put-words = c .before .before in let start = after-put-words .before .before .before in
+    let a = start .args in
+    wrote-sets {d = now (a .out)} (a .at) 16 (plainBytes (a .ticket) (a .code) (a .stream)) (plain-length (a .ticket) (a .code) (a .stream)) (after-put-words .put-words .ensures)
 
 pub put-plain-spec : {M : Type 1} → statement M
 put-plain-spec = tie.close (tie.spec put-words-requires add-result same-length returns)

@@ -39,15 +39,15 @@ four : (n : ℕ) → length (littleEndian 4 n) ≡ 4
 four n = length-littleEndian 4 n
 
 returns : tie.Need-returns
-returns c = let c₄ = c .before .before in
-    let c₃ = c₄ .before .before .before .before in
-    let c₂ = c₃ .before .before .before .before in
-    let c₁ = c₂ .before .before .before .before in
-    let a = c₁ .before .before .before .args in
+returns c =
+    let after-put-u324 = c .before .before in let after-put-u323 = after-put-u324 .before .before .before .before in
+    let after-put-u322 = after-put-u323 .before .before .before .before in let after-put-u32 = after-put-u322 .before .before .before .before in
+    let start = after-put-u32 .before .before .before in
+    let a = start .args in
     rw append-nil
     (sets-four (now (a .out)) (a .at) 4 8 12 (littleEndian 4 (a .a)) (littleEndian 4 (a .b)) (littleEndian 4 (a .c)) (littleEndian 4 (a .d))
     (four (a .a)) (rw (four (a .a), four (a .b))) (rw (four (a .a), four (a .b), four (a .c)))
-    (c₁ .put-u32 .ensures) (c₂ .put-u322 .ensures) (c₃ .put-u323 .ensures) (c₄ .put-u324 .ensures))
+    (after-put-u32 .put-u32 .ensures) (after-put-u322 .put-u322 .ensures) (after-put-u323 .put-u323 .ensures) (after-put-u324 .put-u324 .ensures))
 
 pub put-words-spec : {M : Type 1} → statement M
 put-words-spec =

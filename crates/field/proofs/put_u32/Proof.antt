@@ -25,9 +25,12 @@ same-length : tie.Need-same-length
 same-length c = search needs
 
 returns : tie.Need-returns
-returns c = let a = c .before .before .before .before .before .before .before .before .before .args in
-    c .before .before .put-u162 .ensures
-    ∙ rw (c .before .before .before .before .before .before .put-u16 .ensures) (sets-split 2 2 (now (a .out)) (a .at) (a .n))
+returns c =
+    let after-put-u162 = c .before .before in let after-put-u16 = after-put-u162 .before .before .before .before in
+    let start = after-put-u16 .before .before .before in
+    let a = start .args in
+    after-put-u162 .put-u162 .ensures
+    ∙ rw (after-put-u16 .put-u16 .ensures) (sets-split 2 2 (now (a .out)) (a .at) (a .n))
 
 pub put-u32-spec : {M : Type 1} → statement M
 put-u32-spec =

@@ -25,9 +25,12 @@ same-length : tie.Need-same-length
 same-length c = search needs
 
 returns : tie.Need-returns
-returns c = let a = c .before .before .before .before .before .before .before .before .before .args in
-    c .before .before .put-u322 .ensures
-    ∙ rw (c .before .before .before .before .before .before .put-u32 .ensures) (sets-split 4 4 (now (a .out)) (a .at) (a .n))
+returns c =
+    let after-put-u322 = c .before .before in let after-put-u32 = after-put-u322 .before .before .before .before in
+    let start = after-put-u32 .before .before .before in
+    let a = start .args in
+    after-put-u322 .put-u322 .ensures
+    ∙ rw (after-put-u32 .put-u32 .ensures) (sets-split 4 4 (now (a .out)) (a .at) (a .n))
 
 pub put-u64-spec : {M : Type 1} → statement M
 put-u64-spec =

@@ -27,12 +27,14 @@ enum-told-2 : tie.Need-enum-told-2
 enum-told-2 c = search needs
 
 returns : tie.Need-returns
-returns c = let s = c .before .before in
-    tag-missed (tagIn (now (s .before .before .before .args .frame))) (sym (ap tagFound (c .enum-told2 .given .1)) ∙ s .tag-of .ensures)
+returns c =
+    let after-tag-of = c .before .before in let start = after-tag-of .before .before .before in
+    tag-missed (tagIn (now (start .args .frame))) (sym (ap tagFound (c .enum-told2 .given .1)) ∙ after-tag-of .tag-of .ensures)
 
 returns-2 : tie.Need-returns-2
-returns-2 c = let s = c .before .before in
-    tag-found (tagIn (now (s .before .before .before .args .frame))) _ (sym (ap tagFound (c .enum-told .given .1)) ∙ s .tag-of .ensures)
+returns-2 c =
+    let after-tag-of = c .before .before in let start = after-tag-of .before .before .before in
+    tag-found (tagIn (now (start .args .frame))) _ (sym (ap tagFound (c .enum-told .given .1)) ∙ after-tag-of .tag-of .ensures)
 
 pub tag-good-spec : {M : Type 1} → statement M
 tag-good-spec =

@@ -19,7 +19,10 @@ same-length : tie.Need-same-length
 same-length c = search needs
 
 returns : tie.Need-returns
-returns c Q e = rw (← (c .before .before .before .before .before .before .frame-width .ensures), ← (c .before .before .before .before .before .frame-height .ensures), ← (c .before .before .before .before .frame-rate .ensures)) (c .before .before .set-parameters .ensures Q e)
+returns c Q e =
+    let after-set-parameters = c .before .before in let after-frame-rate = after-set-parameters .before .before in
+    let after-frame-height = after-frame-rate .before in let after-frame-width = after-frame-height .before in
+    rw (← (after-frame-width .frame-width .ensures), ← (after-frame-height .frame-height .ensures), ← (after-frame-rate .frame-rate .ensures)) (after-set-parameters .set-parameters .ensures Q e)
 
 pub keep-parameters-spec : {M : Type 1} → statement M
 keep-parameters-spec =

@@ -16,10 +16,14 @@ enum-told-2 : tie.Need-enum-told-2
 enum-told-2 c = search needs
 
 returns : tie.Need-returns
-returns c Q e = sym (find-absent (c .before .before .before .before .args .number) (Q .slots) (sym (c .before .before .find-resource .ensures .1 Q e) ∙ ap foundAt (c .enum-told2 .given .1)))
+returns c Q e =
+    let after-find-resource = c .before .before in let start = after-find-resource .before .before in
+    sym (find-absent (start .args .number) (Q .slots) (sym (after-find-resource .find-resource .ensures .1 Q e) ∙ ap foundAt (c .enum-told2 .given .1)))
 
 returns-2 : tie.Need-returns-2
-returns-2 c Q e = sym (find-present (c .before .before .before .before .args .number) _ (Q .slots) (sym (c .before .before .find-resource .ensures .1 Q e) ∙ ap foundAt (c .enum-told .given .1)))
+returns-2 c Q e =
+    let after-find-resource = c .before .before in let start = after-find-resource .before .before in
+    sym (find-present (start .args .number) _ (Q .slots) (sym (after-find-resource .find-resource .ensures .1 Q e) ∙ ap foundAt (c .enum-told .given .1)))
 
 pub number-present-spec : {M : Type 1} → statement M
 number-present-spec =

@@ -19,9 +19,10 @@ read-u32-requires : tie.Need-read-u32-requires
 read-u32-requires c κs = search needs
 
 returns-2 : tie.Need-returns-2
-returns-2 c = let l = c .before .before in
-    let a = l .before .before .before .args in
-    name-type (now (a .frame)) (now (a .site)) (l .if1 .left) (λ e. c .if2 .taken (c .before .read-u32 .ensures ∙ e))
+returns-2 c =
+    let after-read-u32 = c .before in let else1 = after-read-u32 .before in let start = else1 .before .before .before in
+    let a = start .args in
+    name-type (now (a .frame)) (now (a .site)) (else1 .if1 .left) (λ e. c .if2 .taken (after-read-u32 .read-u32 .ensures ∙ e))
 
 sub-tag : tie.Need-sub-tag
 sub-tag c = search needs
@@ -42,31 +43,37 @@ enum-told : tie.Need-enum-told
 enum-told c = search needs
 
 returns-3 : tie.Need-returns-3
-returns-3 c = let f = c .before .before in
-    let t = f .before .before in
-    let l = t .before .before in
-    let a = l .before .before .before .args in
-    name-bad (now (a .frame)) (now (a .site)) (l .if1 .left) (sym (t .before .read-u32 .ensures) ∙ t .if2 .left) (sym (f .tag-of .ensures) ∙ ap tagFound (c .enum-told .given .1))
+returns-3 c =
+    let after-tag-of = c .before .before in let else2 = after-tag-of .before .before in let after-read-u32 = else2 .before in
+    let else1 = after-read-u32 .before in let start = else1 .before .before .before in
+    let a = start .args in
+    name-bad (now (a .frame)) (now (a .site)) (else1 .if1 .left) (sym (after-read-u32 .read-u32 .ensures) ∙ else2 .if2 .left)
+    (sym (after-tag-of .tag-of .ensures) ∙ ap tagFound (c .enum-told .given .1))
 
 returns-4 : tie.Need-returns-4
-returns-4 c = let f = c .before .before .before .before in
-    let t = f .before .before in
-    let l = t .before .before in
-    let a = l .before .before .before .args in
-    name-empty (now (a .frame)) (now (a .site)) (l .if1 .left) (sym (t .before .read-u32 .ensures) ∙ t .if2 .left) _ (sym (f .tag-of .ensures) ∙ ap tagFound (c .before .before .found .given .1)) (c .if3 .taken)
+returns-4 c =
+    let after-found = c .before .before in let after-tag-of = after-found .before .before in let else2 = after-tag-of .before .before in
+    let after-read-u32 = else2 .before in let else1 = after-read-u32 .before in let start = else1 .before .before .before in
+    let a = start .args in
+    name-empty (now (a .frame)) (now (a .site)) (else1 .if1 .left) (sym (after-read-u32 .read-u32 .ensures) ∙ else2 .if2 .left) _
+    (sym (after-tag-of .tag-of .ensures) ∙ ap tagFound (after-found .found .given .1)) (c .if3 .taken)
 
 slice-aggregate-result : tie.Need-slice-aggregate-result
-slice-aggregate-result c = let f = c .before .before .before .before .before in
-    let frame = now (f .before .before .before .before .before .before .before .args .frame) in
-    let h = good-short (tagIn frame) _ (sym (f .tag-of .ensures) ∙ ap tagFound (c .before .before .before .found .given .1)) in
+slice-aggregate-result c =
+    let after-found = c .before .before .before in let after-tag-of = after-found .before .before in
+    let after-shared-slice-known = after-tag-of .before .before .before .before .before .before in let start = after-shared-slice-known .before in
+    let frame = now (start .args .frame) in
+    let h = good-short (tagIn frame) _ (sym (after-tag-of .tag-of .ensures) ∙ ap tagFound (after-found .found .given .1)) in
     sym (length-take-le _ _ (simp (length-take, length-drop) (omega (arith, simp (length-take, length-drop) at h))))
 
 returns-5 : tie.Need-returns-5
-returns-5 c = let f = c .before .before .before .before .before in
-    let t = f .before .before in
-    let l = t .before .before in
-    let a = l .before .before .before .args in
-    name-own (now (a .frame)) (now (a .site)) (l .if1 .left) (sym (t .before .read-u32 .ensures) ∙ t .if2 .left) _ (sym (f .tag-of .ensures) ∙ ap tagFound (c .before .before .before .found .given .1)) (c .before .if3 .left)
+returns-5 c =
+    let else3 = c .before in let after-found = else3 .before .before in let after-tag-of = after-found .before .before in
+    let else2 = after-tag-of .before .before in let after-read-u32 = else2 .before in let else1 = after-read-u32 .before in
+    let start = else1 .before .before .before in
+    let a = start .args in
+    name-own (now (a .frame)) (now (a .site)) (else1 .if1 .left) (sym (after-read-u32 .read-u32 .ensures) ∙ else2 .if2 .left) _
+    (sym (after-tag-of .tag-of .ensures) ∙ ap tagFound (after-found .found .given .1)) (else3 .if3 .left)
 
 pub display-name-spec : {M : Type 1} → statement M
 display-name-spec =

@@ -31,9 +31,11 @@ cast-class : tie.Need-cast-class Inv-loop μ-loop
 cast-class c = omega arith
 
 returns : tie.Need-returns Inv-loop μ-loop
-returns c = let a = c .before .before .before .before .before in
-    let l = a .loop in
-    sym (none-at (now (a .before .before .args .octets)) (l .i) (l .due) (l .lo) (l .hi) (c .before .class-of .result) (omega arith) (c .before .before .if1 .taken) (c .before .class-of .ensures) (c .if2 .taken))
+returns c =
+    let after-class-of = c .before in let then1 = after-class-of .before in let at-loop = then1 .before .before .before in
+    let start = at-loop .before .before in
+    let l = at-loop .loop in
+    sym (none-at (now (start .args .octets)) (l .i) (l .due) (l .lo) (l .hi) (after-class-of .class-of .result) (omega arith) (then1 .if1 .taken) (after-class-of .class-of .ensures) (c .if2 .taken))
     ∙ l .inv .1
 
 array-read-due : tie.Need-array-read-due Inv-loop μ-loop
@@ -52,9 +54,10 @@ returns-2 c = let a = c .before .before .before .before in
     ∙ l .inv .1
 
 returns-3 : tie.Need-returns-3 Inv-loop μ-loop
-returns-3 c = let a = c .before .before .before .before .before in
-    let l = a .loop in
-    sym (not-tail-at (now (a .before .before .args .octets)) (l .i) (l .due) (l .lo) (l .hi) (omega arith) (c .before .before .if1 .left) (within-above _ (l .lo) (l .hi) (c .if4 .taken)))
+returns-3 c =
+    let else1 = c .before .before in let at-loop = else1 .before .before .before in let start = at-loop .before .before in
+    let l = at-loop .loop in
+    sym (not-tail-at (now (start .args .octets)) (l .i) (l .due) (l .lo) (l .hi) (omega arith) (else1 .if1 .left) (within-above _ (l .lo) (l .hi) (c .if4 .taken)))
     ∙ l .inv .1
 
 sub-due : tie.Need-sub-due Inv-loop μ-loop

@@ -18,14 +18,18 @@ is-utf8-requires : tie.Need-is-utf8-requires
 is-utf8-requires c κs = search needs
 
 returns : tie.Need-returns
-returns c = let test = c .before .before .before in
-    let n = test .before .nul-at in
-    tag-good (now (test .before .before .before .args .tag)) (n .result) (n .ensures) (test .if1 .taken) (sym (c .before .is-utf8 .ensures) ∙ c .if2 .taken)
+returns c =
+    let after-is-utf8 = c .before in let then1 = after-is-utf8 .before .before in let after-nul-at = then1 .before in
+    let start = after-nul-at .before .before in
+    let n = after-nul-at .nul-at in
+    tag-good (now (start .args .tag)) (n .result) (n .ensures) (then1 .if1 .taken) (sym (after-is-utf8 .is-utf8 .ensures) ∙ c .if2 .taken)
 
 returns-2 : tie.Need-returns-2
-returns-2 c = let test = c .before .before .before in
-    let n = test .before .nul-at in
-    tag-bad (now (test .before .before .before .args .tag)) (n .result) (n .ensures) (test .if1 .taken) (sym (c .before .is-utf8 .ensures) ∙ c .if2 .left)
+returns-2 c =
+    let after-is-utf8 = c .before in let then1 = after-is-utf8 .before .before in let after-nul-at = then1 .before in
+    let start = after-nul-at .before .before in
+    let n = after-nul-at .nul-at in
+    tag-bad (now (start .args .tag)) (n .result) (n .ensures) (then1 .if1 .taken) (sym (after-is-utf8 .is-utf8 .ensures) ∙ c .if2 .left)
 
 returns-3 : tie.Need-returns-3
 returns-3 c = let n = c .before .nul-at in

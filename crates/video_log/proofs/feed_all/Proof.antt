@@ -44,9 +44,11 @@ add-at c = search needs
 
 loop-less : tie.Need-loop-less Inv-loop μ-loop
 loop-less c =
-    let l = c .before .before .before .before .before .before .before .before .before .before .loop in
-    let left = rest (l .at) (c .before .before .before .before .before .before .before .before .before .before .before .before .before .args .piece .now) in
-    omega (arith, c .before .before .before .before .feed .ensures .1 .0 .1 (rw left (rw length-drop (omega (arith, c .before .before .before .before .before .before .before .before .before .loop-test .taken)))), c .before .before .before .before .before .before .before .before .before .loop-test .taken)
+    let after-feed = c .before .before .before .before in let in-loop = after-feed .before .before .before .before .before in let at-loop = in-loop .before in
+    let start = at-loop .before .before .before in
+    let l = at-loop .loop in
+    let left = rest (l .at) (start .args .piece .now) in
+    omega (arith, after-feed .feed .ensures .1 .0 .1 (rw left (rw length-drop (omega (arith, in-loop .loop-test .taken)))), in-loop .loop-test .taken)
 
 loop-again : tie.Need-loop-again Inv-loop μ-loop
 loop-again c = search needs

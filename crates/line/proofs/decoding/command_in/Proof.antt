@@ -44,9 +44,10 @@ part-unhex-end-2 : tie.Need-part-unhex-end-2
 part-unhex-end-2 c = search needs
 
 unhex-requires-2 : tie.Need-unhex-requires-2
-unhex-requires-2 c κs = let s = c .before .before .before .before .before .before .before .before .before in
-    let line = now (s .args .line) in
-    (ap isHex (rest 10 line) ∙ hex-drop 5 line (s .pre .0), rw (rest 10 line) (omega (arith, length-drop 10 line)))
+unhex-requires-2 c κs =
+    let else1 = c .before .before .before .before .before .before in let start = else1 .before .before .before in
+    let line = now (start .args .line) in
+    (ap isHex (rest 10 line) ∙ hex-drop 5 line (start .pre .0), rw (rest 10 line) (omega (arith, length-drop 10 line)))
 
 slice-aggregate-read-u32 : tie.Need-slice-aggregate-read-u32
 slice-aggregate-read-u32 c = search needs
@@ -61,8 +62,11 @@ same-length : tie.Need-same-length
 same-length c = search needs
 
 returns-2 : tie.Need-returns-2
-returns-2 c = let s = c .before .before .before .before .before .before .before .before .before .before .before .before .before .before in
-    let read = command-read (now (s .args .line)) (now (s .args .frame)) (s .pre .1) (omega arith) (s .pre .2) _ _ _ _ refl (c .before .before .before .before .before .before .before .before .unhex .ensures) (c .read-u32 .ensures) (c .before .before .before .before .unhex2 .ensures) in
+returns-2 c =
+    let after-unhex2 = c .before .before .before .before in let after-unhex = after-unhex2 .before .before .before .before in
+    let start = after-unhex .before .before .before .before .before .before in
+    let read = command-read (now (start .args .line)) (now (start .args .frame)) (start .pre .1) (omega arith) (start .pre .2) _ _ _ _ refl
+    (after-unhex .unhex .ensures) (c .read-u32 .ensures) (after-unhex2 .unhex2 .ensures) in
     (omega arith, read)
 
 pub command-in-spec : {M : Type 1} → statement M

@@ -23,7 +23,9 @@ read-u32-requires : tie.Need-read-u32-requires
 read-u32-requires c κs = search needs
 
 returns-2 : tie.Need-returns-2
-returns-2 c = (omega arith, λ buffer. drained-read (now (c .before .before .before .before .before .before .before .args .line)) _ _ _ (c .before .before .before .before .before .if1 .left) refl (c .before .before .before .unhex .ensures) (c .read-u32 .ensures))
+returns-2 c =
+    let after-unhex = c .before .before .before in let else1 = after-unhex .before .before in let start = else1 .before .before in
+    (omega arith, λ buffer. drained-read (now (start .args .line)) _ _ _ (else1 .if1 .left) refl (after-unhex .unhex .ensures) (c .read-u32 .ensures))
 
 pub drained-in-spec : {M : Type 1} → statement M
 drained-in-spec =

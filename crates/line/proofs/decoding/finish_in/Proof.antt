@@ -47,7 +47,14 @@ read-u64-requires : tie.Need-read-u64-requires
 read-u64-requires c κs = search needs
 
 returns-2 : tie.Need-returns-2
-returns-2 c = (omega arith, λ buffer. finish-read (now (c .before .before .before .before .before .before .before .before .before .before .before .before .before .before .before .args .line)) _ _ _ _ _ _ _ (c .before .before .before .before .before .before .before .before .before .before .before .before .before .if1 .left) refl (c .before .before .before .before .before .before .before .before .before .before .before .unhex .ensures) (c .before .before .before .before .before .before .before .before .read-u32 .ensures) (c .before .before .before .before .before .before .read-u322 .ensures) (c .before .before .before .before .read-u323 .ensures) (c .before .before .read-u324 .ensures) (c .read-u64 .ensures))
+returns-2 c =
+    let after-read-u324 = c .before .before in let after-read-u323 = after-read-u324 .before .before in let after-read-u322 = after-read-u323 .before .before in
+    let after-read-u32 = after-read-u322 .before .before in let after-unhex = after-read-u32 .before .before .before in
+    let else1 = after-unhex .before .before in let start = else1 .before .before in (
+      omega arith,
+      λ buffer. finish-read (now (start .args .line)) _ _ _ _ _ _ _ (else1 .if1 .left) refl (after-unhex .unhex .ensures)
+          (after-read-u32 .read-u32 .ensures) (after-read-u322 .read-u322 .ensures) (after-read-u323 .read-u323 .ensures) (after-read-u324 .read-u324 .ensures) (c .read-u64 .ensures),
+    )
 
 pub finish-in-spec : {M : Type 1} → statement M
 finish-in-spec =

@@ -32,8 +32,9 @@ digit-requires : tie.Need-digit-requires Inv-loop μ-loop
 digit-requires c κs = tt
 
 returns-2 : tie.Need-returns-2 Inv-loop μ-loop
-returns-2 c = let l = c .before .before .before .before .before in
-    sym (left-low (now (l .before .before .args .line)) (l .loop .i) (omega arith) (omega arith)) ∙ l .loop .inv .1
+returns-2 c =
+    let at-loop = c .before .before .before .before .before in let start = at-loop .before .before in
+    sym (left-low (now (start .args .line)) (at-loop .loop .i) (omega arith) (omega arith)) ∙ at-loop .loop .inv .1
 
 add-digit : tie.Need-add-digit Inv-loop μ-loop
 add-digit c = omega arith
@@ -45,8 +46,9 @@ digit-requires-2 : tie.Need-digit-requires-2 Inv-loop μ-loop
 digit-requires-2 c κs = tt
 
 returns-3 : tie.Need-returns-3 Inv-loop μ-loop
-returns-3 c = let l = c .before .before .before .before .before .before .before .before in
-    sym (left-high (now (l .before .before .args .line)) (l .loop .i) (omega arith) (omega arith)) ∙ l .loop .inv .1
+returns-3 c =
+    let else1 = c .before .before .before .before .before .before in let at-loop = else1 .before .before in let start = at-loop .before .before in
+    sym (left-high (now (start .args .line)) (at-loop .loop .i) (omega arith) (omega arith)) ∙ at-loop .loop .inv .1
 
 add-i : tie.Need-add-i Inv-loop μ-loop
 add-i c = omega arith
@@ -55,8 +57,9 @@ loop-less : tie.Need-loop-less Inv-loop μ-loop
 loop-less c = omega arith
 
 loop-again : tie.Need-loop-again Inv-loop μ-loop
-loop-again c = let l = c .before .before .before .before .before .before .before .before in
-    (omega arith, sym (left-more (now (l .before .before .args .line)) (l .loop .i) (omega arith) (omega arith) (omega arith)) ∙ l .loop .inv .1)
+loop-again c =
+    let else1 = c .before .before .before .before .before .before in let at-loop = else1 .before .before in let start = at-loop .before .before in
+    (omega arith, sym (left-more (now (start .args .line)) (at-loop .loop .i) (omega arith) (omega arith) (omega arith)) ∙ at-loop .loop .inv .1)
 
 returns-4 : tie.Need-returns-4 Inv-loop μ-loop
 returns-4 c = let l = c .before in

@@ -39,15 +39,17 @@ loop-less : tie.Need-loop-less Inv-loop μ-loop
 loop-less c = omega arith
 
 loop-again : tie.Need-loop-again Inv-loop μ-loop
-loop-again c = let s = c .before .before .before .before .before .before .before .before .before in
-    let l = c .before .before .before .before .before .before .loop in
-    let bytes = now (s .args .bytes) in (
+loop-again c =
+    let after-put-byte = c .before .before in let at-loop = after-put-byte .before .before .before .before in let start = at-loop .before .before .before in
+    let l = at-loop .loop in
+    let bytes = now (start .args .bytes) in (
       omega arith,
       omega arith,
       omega arith,
-      c .before .before .put-byte .ensures
+      after-put-byte .put-byte .ensures
           ∙ rw (l .inv .3, l .inv .1, pieces-more hexPair bytes (l .i) 0 (omega arith))
-          (sets-next (now (s .args .out)) (s .args .at) (2 * l .i) (hexText (take (l .i) bytes)) (hexPair (getD bytes (l .i) 0)) (length-text (take (l .i) bytes) ∙ ap (λ n. 2 * n) (length-take-le (l .i) bytes (omega arith)))),
+          (sets-next (now (start .args .out)) (start .args .at) (2 * l .i) (hexText (take (l .i) bytes)) (hexPair (getD bytes (l .i) 0))
+          (length-text (take (l .i) bytes) ∙ ap (λ n. 2 * n) (length-take-le (l .i) bytes (omega arith)))),
     )
 
 same-length : tie.Need-same-length Inv-loop μ-loop

@@ -25,13 +25,16 @@ same-length : tie.Need-same-length
 same-length c = search needs
 
 returns : tie.Need-returns
-returns c = let s = c .before .before .before .before .before .before .before .before .before in
-    let end = c .before .before .before .before .before .before .line-end in
-    let put = c .before .before .before .append in (
-      append-fits (now (s .args .held)) _ (take (end .result) (now (s .args .piece))) (s .args .have) _ (s .pre .0) (s .pre .1) (put .ensures),
+returns c =
+    let after-append = c .before .before .before in let after-line-end = after-append .before .before .before in
+    let start = after-line-end .before .before .before in
+    let end = after-line-end .line-end in
+    let put = after-append .append in (
+      append-fits (now (start .args .held)) _ (take (end .result) (now (start .args .piece))) (start .args .have) _ (start .pre .0) (start .pre .1) (put .ensures),
       (
-        split-ended (take (s .args .have) (now (s .args .held))) (now (s .args .piece)) (end .result) (end .ensures) _ (append-kept (now (s .args .held)) _ (take (end .result) (now (s .args .piece))) (s .args .have) _ (s .pre .0) (s .pre .1) (put .ensures)) (c .if1 .taken),
-        append-rest (now (s .args .held)) _ (take (end .result) (now (s .args .piece))) (s .args .have) _ (s .pre .0) (s .pre .1) (put .ensures),
+        split-ended (take (start .args .have) (now (start .args .held))) (now (start .args .piece)) (end .result) (end .ensures) _
+            (append-kept (now (start .args .held)) _ (take (end .result) (now (start .args .piece))) (start .args .have) _ (start .pre .0) (start .pre .1) (put .ensures)) (c .if1 .taken),
+        append-rest (now (start .args .held)) _ (take (end .result) (now (start .args .piece))) (start .args .have) _ (start .pre .0) (start .pre .1) (put .ensures),
       ),
     )
 
@@ -39,13 +42,16 @@ same-length-2 : tie.Need-same-length-2
 same-length-2 c = search needs
 
 returns-2 : tie.Need-returns-2
-returns-2 c = let s = c .before .before .before .before .before .before .before .before .before in
-    let end = c .before .before .before .before .before .before .line-end in
-    let put = c .before .before .before .append in (
-      append-fits (now (s .args .held)) _ (take (end .result) (now (s .args .piece))) (s .args .have) _ (s .pre .0) (s .pre .1) (put .ensures),
+returns-2 c =
+    let after-append = c .before .before .before in let after-line-end = after-append .before .before .before in
+    let start = after-line-end .before .before .before in
+    let end = after-line-end .line-end in
+    let put = after-append .append in (
+      append-fits (now (start .args .held)) _ (take (end .result) (now (start .args .piece))) (start .args .have) _ (start .pre .0) (start .pre .1) (put .ensures),
       (
-        split-open (take (s .args .have) (now (s .args .held))) (now (s .args .piece)) (end .result) (end .ensures) _ (append-kept (now (s .args .held)) _ (take (end .result) (now (s .args .piece))) (s .args .have) _ (s .pre .0) (s .pre .1) (put .ensures)) (c .if1 .left),
-        append-rest (now (s .args .held)) _ (take (end .result) (now (s .args .piece))) (s .args .have) _ (s .pre .0) (s .pre .1) (put .ensures),
+        split-open (take (start .args .have) (now (start .args .held))) (now (start .args .piece)) (end .result) (end .ensures) _
+            (append-kept (now (start .args .held)) _ (take (end .result) (now (start .args .piece))) (start .args .have) _ (start .pre .0) (start .pre .1) (put .ensures)) (c .if1 .left),
+        append-rest (now (start .args .held)) _ (take (end .result) (now (start .args .piece))) (start .args .have) _ (start .pre .0) (start .pre .1) (put .ensures),
       ),
     )
 

@@ -40,31 +40,48 @@ part-put-hex-end-2 : tie.Need-part-put-hex-end-2
 part-put-hex-end-2 c = search needs
 
 put-hex-requires-2 : tie.Need-put-hex-requires-2
-put-hex-requires-2 c κs = let answer = now (c .before .before .before .before .before .before .before .before .before .before .before .before .before .args .answer) in
-    let ticket : c .before .before .before .before .put-hex .result ≡ c .before .before .before .before .before .before .before .before .before .before .before .before .before .args .at + 2 + 8 = c .before .before .before .before .put-hex .ensures .next ∙ (omega (arith, length-text (take 4 answer), length-take-le 4 answer (omega arith))) in
+put-hex-requires-2 c κs =
+    let after-put-hex = c .before .before .before .before in let after-put-byte-arg = after-put-hex .before .before .before .before .before .before in
+    let start = after-put-byte-arg .before .before .before in
+    let answer = now (start .args .answer) in
+    let ticket : after-put-hex .put-hex .result ≡ start .args .at + 2 + 8 = after-put-hex .put-hex .ensures .next
+    ∙ (omega (arith, length-text (take 4 answer), length-take-le 4 answer (omega arith))) in
     let rest-length : length (take (length answer - 8) (drop 8 answer)) ≡ length answer - 8 = ap length (rest 8 answer) ∙ length-drop 8 answer in
     omega (arith, ticket, rest-length)
 
 slice-write-out : tie.Need-slice-write-out
-slice-write-out c = let answer = now (c .before .before .before .before .before .before .before .before .before .before .before .before .before .before .before .before .args .answer) in
-    let ticket : c .before .before .before .before .before .before .before .put-hex .result ≡ c .before .before .before .before .before .before .before .before .before .before .before .before .before .before .before .before .args .at + 2 + 8 = c .before .before .before .before .before .before .before .put-hex .ensures .next ∙ (omega (arith, length-text (take 4 answer), length-take-le 4 answer (omega arith))) in
+slice-write-out c =
+    let after-put-hex2 = c .before .before in let after-put-hex = after-put-hex2 .before .before .before .before .before in
+    let after-put-byte-arg = after-put-hex .before .before .before .before .before .before in let start = after-put-byte-arg .before .before .before in
+    let answer = now (start .args .answer) in
+    let ticket : after-put-hex .put-hex .result ≡ start .args .at + 2 + 8 = after-put-hex .put-hex .ensures .next
+    ∙ (omega (arith, length-text (take 4 answer), length-take-le 4 answer (omega arith))) in
     let rest-length : length (take (length answer - 8) (drop 8 answer)) ≡ length answer - 8 = ap length (rest 8 answer) ∙ length-drop 8 answer in
-    let end : c .before .before .put-hex2 .result ≡ c .before .before .before .before .before .before .before .before .before .before .before .before .before .before .before .before .args .at + 10 + 2 * (length answer - 8) = c .before .before .put-hex2 .ensures .next ∙ (omega (arith, ticket, length-text (take (length answer - 8) (drop 8 answer)), rest-length)) in
+    let end : after-put-hex2 .put-hex2 .result ≡ start .args .at + 10 + 2 * (length answer - 8) = after-put-hex2 .put-hex2 .ensures .next
+    ∙ (omega (arith, ticket, length-text (take (length answer - 8) (drop 8 answer)), rest-length)) in
     omega (arith, end)
 
 add-result : tie.Need-add-result
-add-result c = let answer = now (c .before .before .before .before .before .before .before .before .before .before .before .before .before .before .before .before .args .answer) in
-    let ticket : c .before .before .before .before .before .before .before .put-hex .result ≡ c .before .before .before .before .before .before .before .before .before .before .before .before .before .before .before .before .args .at + 2 + 8 = c .before .before .before .before .before .before .before .put-hex .ensures .next ∙ (omega (arith, length-text (take 4 answer), length-take-le 4 answer (omega arith))) in
+add-result c =
+    let after-put-hex2 = c .before .before in let after-put-hex = after-put-hex2 .before .before .before .before .before in
+    let after-put-byte-arg = after-put-hex .before .before .before .before .before .before in let start = after-put-byte-arg .before .before .before in
+    let answer = now (start .args .answer) in
+    let ticket : after-put-hex .put-hex .result ≡ start .args .at + 2 + 8 = after-put-hex .put-hex .ensures .next
+    ∙ (omega (arith, length-text (take 4 answer), length-take-le 4 answer (omega arith))) in
     let rest-length : length (take (length answer - 8) (drop 8 answer)) ≡ length answer - 8 = ap length (rest 8 answer) ∙ length-drop 8 answer in
-    let end : c .before .before .put-hex2 .result ≡ c .before .before .before .before .before .before .before .before .before .before .before .before .before .before .before .before .args .at + 10 + 2 * (length answer - 8) = c .before .before .put-hex2 .ensures .next ∙ (omega (arith, ticket, length-text (take (length answer - 8) (drop 8 answer)), rest-length)) in
+    let end : after-put-hex2 .put-hex2 .result ≡ start .args .at + 10 + 2 * (length answer - 8) = after-put-hex2 .put-hex2 .ensures .next
+    ∙ (omega (arith, ticket, length-text (take (length answer - 8) (drop 8 answer)), rest-length)) in
     omega (arith, end)
 
 same-length : tie.Need-same-length
 same-length c = simp length-set (omega arith)
 
 returns : tie.Need-returns
-returns c = λ w is.
-    wrote-answer (now (c .before .before .before .before .before .before .before .before .before .before .before .before .before .before .before .before .args .answer)) (c .before .before .before .before .before .before .before .before .before .before .before .before .before .before .before .before .args .at) _ _ w is (c .before .before .before .before .before .before .before .before .before .before .before .before .put-byte .ensures) (c .before .before .before .before .before .before .before .put-hex .ensures) (c .before .before .put-hex2 .ensures)
+returns c =
+    let after-put-hex2 = c .before .before in let after-put-hex = after-put-hex2 .before .before .before .before .before in
+    let after-put-byte = after-put-hex .before .before .before .before .before in let start = after-put-byte .before .before .before .before in
+    λ w is.
+    wrote-answer (now (start .args .answer)) (start .args .at) _ _ w is (after-put-byte .put-byte .ensures) (after-put-hex .put-hex .ensures) (after-put-hex2 .put-hex2 .ensures)
 
 pub put-answer-spec : {M : Type 1} → statement M
 put-answer-spec =

@@ -55,24 +55,32 @@ part-put-answer-end c = let bytes = now (c .before .before .before .before .befo
     next-fits bytes (l .i) _ (omega arith) (l .inv .3 .whole) (c .read-u32 .ensures)
 
 put-answer-requires : tie.Need-put-answer-requires Inv-loop μ-loop
-put-answer-requires c κs = let bytes = now (c .before .before .before .before .before .before .before .args .answers) in
-    let l = c .before .before .before .before .loop in
-    let part = next-length bytes (l .i) _ (omega arith) (l .inv .3 .whole) (c .before .before .read-u32 .ensures) _ refl in
-    (omega (arith, part), omega (arith, part, next-fits bytes (l .i) _ (omega arith) (l .inv .3 .whole) (c .before .before .read-u32 .ensures)))
+put-answer-requires c κs =
+    let after-read-u32 = c .before .before in let at-loop = after-read-u32 .before .before in let start = at-loop .before .before .before in
+    let bytes = now (start .args .answers) in
+    let l = at-loop .loop in
+    let part = next-length bytes (l .i) _ (omega arith) (l .inv .3 .whole) (after-read-u32 .read-u32 .ensures) _ refl in
+    (omega (arith, part), omega (arith, part, next-fits bytes (l .i) _ (omega arith) (l .inv .3 .whole) (after-read-u32 .read-u32 .ensures)))
 
 loop-less : tie.Need-loop-less Inv-loop μ-loop
-loop-less c = let bytes = now (c .before .before .before .before .before .before .before .before .before .before .args .answers) in
-    let l = c .before .before .before .before .before .before .before .loop in
-    omega (arith, next-fits bytes (l .i) _ (omega arith) (l .inv .3 .whole) (c .before .before .before .before .before .read-u32 .ensures))
+loop-less c =
+    let after-read-u32 = c .before .before .before .before .before in let at-loop = after-read-u32 .before .before in
+    let start = at-loop .before .before .before in
+    let bytes = now (start .args .answers) in
+    let l = at-loop .loop in
+    omega (arith, next-fits bytes (l .i) _ (omega arith) (l .inv .3 .whole) (after-read-u32 .read-u32 .ensures))
 
 loop-again : tie.Need-loop-again Inv-loop μ-loop
-loop-again c = let bytes = now (c .before .before .before .before .before .before .before .before .before .before .args .answers) in
-    let l = c .before .before .before .before .before .before .before .loop in
+loop-again c =
+    let after-put-answer = c .before .before in let after-read-u32 = after-put-answer .before .before .before in let at-loop = after-read-u32 .before .before in
+    let start = at-loop .before .before .before in
+    let bytes = now (start .args .answers) in
+    let l = at-loop .loop in
     let inside : l .i < length bytes = omega arith in
     let whole = l .inv .3 .whole in
-    let n = c .before .before .before .before .before .read-u32 .result in
-    let count = c .before .before .before .before .before .read-u32 .ensures in
-    let wrote = c .before .before .put-answer .ensures (at-i bytes (l .i) n inside whole count .answer) (next-here bytes (l .i) n inside whole count _ refl) in (
+    let n = after-read-u32 .read-u32 .result in
+    let count = after-read-u32 .read-u32 .ensures in
+    let wrote = after-put-answer .put-answer .ensures (at-i bytes (l .i) n inside whole count .answer) (next-here bytes (l .i) n inside whole count _ refl) in (
       next-fits bytes (l .i) n inside whole count,
       omega arith,
       next-short bytes (l .i) n inside whole count (l .inv .2) wrote,

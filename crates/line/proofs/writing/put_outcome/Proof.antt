@@ -12,10 +12,11 @@ same-length : tie.Need-same-length
 same-length c = search needs
 
 returns : tie.Need-returns
-returns c = (
-  omega (arith, c .before .before .put-answers .ensures .0),
-  rw (eq-eqb (c .before .before .before .before .before .before .before .args .refusal) 0 (c .before .before .before .before .if1 .taken)) (c .before .before .put-answers .ensures .1),
-)
+returns c =
+    let after-put-answers = c .before .before in let then1 = after-put-answers .before .before in let start = then1 .before .before .before in (
+      omega (arith, after-put-answers .put-answers .ensures .0),
+      rw (eq-eqb (start .args .refusal) 0 (then1 .if1 .taken)) (after-put-answers .put-answers .ensures .1),
+    )
 
 cast-put-refusal : tie.Need-cast-put-refusal
 cast-put-refusal c = search needs
@@ -27,10 +28,11 @@ same-length-2 : tie.Need-same-length-2
 same-length-2 c = search needs
 
 returns-2 : tie.Need-returns-2
-returns-2 c = (
-  omega (arith, c .before .before .put-refusal .ensures .0),
-  rw (ne-eqb (c .before .before .before .before .before .before .before .args .refusal) 0 (c .before .before .before .before .if1 .left)) (c .before .before .put-refusal .ensures .1),
-)
+returns-2 c =
+    let after-put-refusal = c .before .before in let else1 = after-put-refusal .before .before in let start = else1 .before .before .before in (
+      omega (arith, after-put-refusal .put-refusal .ensures .0),
+      rw (ne-eqb (start .args .refusal) 0 (else1 .if1 .left)) (after-put-refusal .put-refusal .ensures .1),
+    )
 
 pub put-outcome-spec : {M : Type 1} → statement M
 put-outcome-spec =

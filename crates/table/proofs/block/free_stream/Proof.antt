@@ -14,7 +14,9 @@ same-length c = search needs
 
 returns : tie.Need-returns
 unfolding placeWords
-returns c = c .before .before .clear .ensures ∙ ap zeros (c .before .before .before .before .before .pre)
+returns c =
+    let after-clear = c .before .before in let start = after-clear .before .before .before in
+    after-clear .clear .ensures ∙ ap zeros (start .pre)
 
 pub free-stream-spec : {M : Type 1} → statement M
 free-stream-spec = tie.close (tie.spec clear-requires same-length returns)

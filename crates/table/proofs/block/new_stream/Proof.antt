@@ -43,15 +43,19 @@ slice-write-b-3 c = simp length-set (omega arith)
 
 same-length : tie.Need-same-length
 same-length c =
-    let a = c .before .before .before .before .before .before .before .before .before .args in
-    let q = c .before .before .before .before .before .before .new-queue .last .0 in
-    let r = c .before .before .new-queue2 .last .0 in
-    headed-length (put 92 84 (put 8 84 (a .b .now) q) r) (a .number) (a .format) ∙ c .before .b2 .given .1 ∙ c .before .before .before .before .before .b .given .1
+    let after-b2 = c .before in let after-new-queue2 = after-b2 .before in let after-b = after-new-queue2 .before .before .before in
+    let after-new-queue = after-b .before in let start = after-new-queue .before .before .before in
+    let a = start .args in
+    let q = after-new-queue .new-queue .last .0 in
+    let r = after-new-queue2 .new-queue2 .last .0 in
+    headed-length (put 92 84 (put 8 84 (a .b .now) q) r) (a .number) (a .format) ∙ after-b2 .b2 .given .1 ∙ after-b .b .given .1
 
 returns : tie.Need-returns
 returns c e =
-    let a = c .before .before .before .before .before .before .before .before .before .args in
-    new-block _ _ _ e (c .before .before .before .before .before .before .new-queue .ensures) (c .before .before .new-queue2 .ensures) (a .number) (a .format)
+    let after-new-queue2 = c .before .before in let after-new-queue = after-new-queue2 .before .before .before .before in
+    let start = after-new-queue .before .before .before in
+    let a = start .args in
+    new-block _ _ _ e (after-new-queue .new-queue .ensures) (after-new-queue2 .new-queue2 .ensures) (a .number) (a .format)
 
 pub new-stream-spec : {M : Type 1} → statement M
 new-stream-spec =

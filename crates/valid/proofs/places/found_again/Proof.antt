@@ -15,15 +15,18 @@ use Rattle.valid.proofs.places.found_again.Statement.{statement}
 use Rattle.valid.proofs.places.found_again.Tie as tie
 
 -- past the first test the place is not vacant, and the search was for its number
-looked : (c : tie.After-find-stream) (d : Device) → allOf sized d ≡ true → c .before .before .before .before .before .before .before .args .t .now ≡ encode d
-    → isPlace (c .before .before .before .before .before .before .before .args .k) (foundAt (c .find-stream .result)) ≡ foundAgain (c .before .before .before .before .before .before .before .args .k) d
+looked : (c : tie.After-find-stream) (d : Device) →
+    let after-shared-slice-known = c .before .before .before .before .before .before in let start = after-shared-slice-known .before in
+    allOf sized d ≡ true → start .args .t .now ≡ encode d
+    → isPlace (start .args .k) (foundAt (c .find-stream .result)) ≡ foundAgain (start .args .k) d
 looked c d z e =
-    let s = c .before .before .before .before .before .before .before in
-    let k = s .args .k in
-    let here = place-read _ d k (s .pre .0) (s .pre .1) z e in
-    again-found k d (c .before .stream-number .result) (foundAt (c .find-stream .result))
-    (sym (c .before .before .before .before .is-vacant .ensures (placeAt k d) here) ∙ c .before .before .before .if1 .left)
-    (c .before .stream-number .ensures (placeAt k d) here)
+    let after-stream-number = c .before in let else1 = after-stream-number .before .before in let after-is-vacant = else1 .before in
+    let start = after-is-vacant .before .before .before in
+    let k = start .args .k in
+    let here = place-read _ d k (start .pre .0) (start .pre .1) z e in
+    again-found k d (after-stream-number .stream-number .result) (foundAt (c .find-stream .result))
+    (sym (after-is-vacant .is-vacant .ensures (placeAt k d) here) ∙ else1 .if1 .left)
+    (after-stream-number .stream-number .ensures (placeAt k d) here)
     (c .find-stream .ensures .1 d z e)
 
 mul-at : tie.Need-mul-at
@@ -49,9 +52,9 @@ is-vacant-requires c κs = search needs
 
 returns : tie.Need-returns
 returns c d z e =
-    let s = c .before .before .before .before in
-    let k = s .args .k in
-    again-vacant k d (sym (c .before .is-vacant .ensures (placeAt k d) (place-read _ d k (s .pre .0) (s .pre .1) z e)) ∙ c .if1 .taken)
+    let after-is-vacant = c .before in let start = after-is-vacant .before .before .before in
+    let k = start .args .k in
+    again-vacant k d (sym (after-is-vacant .is-vacant .ensures (placeAt k d) (place-read _ d k (start .pre .0) (start .pre .1) z e)) ∙ c .if1 .taken)
 
 add-stream-number : tie.Need-add-stream-number
 add-stream-number c = search needs
@@ -81,10 +84,16 @@ enum-told : tie.Need-enum-told
 enum-told c = search needs
 
 returns-2 : tie.Need-returns-2
-returns-2 c d z e = ap (λ (r : Found). isPlace (c .before .before .before .before .before .before .before .before .before .args .k) (foundAt r)) (sym (c .enum-told .given .1)) ∙ looked (c .before .before) d z e
+returns-2 c d z e =
+    let after-find-stream = c .before .before in let after-shared-slice-known = after-find-stream .before .before .before .before .before .before in
+    let start = after-shared-slice-known .before in
+    ap (λ (r : Found). isPlace (start .args .k) (foundAt r)) (sym (c .enum-told .given .1)) ∙ looked after-find-stream d z e
 
 returns-3 : tie.Need-returns-3
-returns-3 c d z e = ap (λ (r : Found). isPlace (c .before .before .before .before .before .before .before .before .before .before .args .k) (foundAt r)) (sym (c .before .found .given .1)) ∙ looked (c .before .before .before) d z e
+returns-3 c d z e =
+    let after-found = c .before in let after-find-stream = after-found .before .before in
+    let after-shared-slice-known = after-find-stream .before .before .before .before .before .before in let start = after-shared-slice-known .before in
+    ap (λ (r : Found). isPlace (start .args .k) (foundAt r)) (sym (after-found .found .given .1)) ∙ looked after-find-stream d z e
 
 pub found-again-spec : {M : Type 1} → statement M
 found-again-spec =

@@ -22,8 +22,8 @@ all-zero-requires c κs = search needs
 
 returns : tie.Need-returns
 returns c =
-    let s = c .before .before .before .before .before in
-    c .all-zero .ensures ∙ head-settled _ (s .pre .0) (s .pre .1) (c .before .before .if1 .taken)
+    let then1 = c .before .before in let start = then1 .before .before .before in
+    c .all-zero .ensures ∙ head-settled _ (start .pre .0) (start .pre .1) (then1 .if1 .taken)
 
 sub-all-zero-2 : tie.Need-sub-all-zero-2
 sub-all-zero-2 c = search needs
@@ -39,13 +39,13 @@ all-zero-requires-2 c κs = search needs
 
 returns-2 : tie.Need-returns-2
 returns-2 c =
-    let s = c .before .before .before .before .before .before in
-    c .all-zero2 .ensures ∙ head-owed _ (s .pre .0) (s .pre .1) (c .before .before .if2 .taken)
+    let then2 = c .before .before in let start = then2 .before .before .before .before in
+    c .all-zero2 .ensures ∙ head-owed _ (start .pre .0) (start .pre .1) (then2 .if2 .taken)
 
 returns-3 : tie.Need-returns-3
 returns-3 c =
-    let s = c .before .before .before .before in
-    head-other _ (s .pre .0) (s .pre .1) (c .before .if1 .left) (c .if2 .left)
+    let else1 = c .before in let start = else1 .before .before .before in
+    head-other _ (start .pre .0) (start .pre .1) (else1 .if1 .left) (c .if2 .left)
 
 pub head-stands-spec : {M : Type 1} → statement M
 head-stands-spec =

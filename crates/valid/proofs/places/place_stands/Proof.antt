@@ -18,17 +18,23 @@ use Rattle.valid.proofs.places.place_stands.Statement.{statement}
 use Rattle.valid.proofs.places.place_stands.Tie as tie
 
 -- what the tests passed so far say of the block
-head-ok : (c : tie.Else2) → headStands (take 8 (c .before .before .before .before .before .before .args .b .now)) ≡ true
+head-ok : (c : tie.Else2) →
+    let start = c .before .before .before .before .before .before in
+    headStands (take 8 (start .args .b .now)) ≡ true
 head-ok c = sym (c .before .head-stands .ensures) ∙ not-false _ (c .if2 .left)
 
 queueStands : ℕ → List ℕ → Bool
 queueStands a b = same (part a 84 b) (queueWords (decodeQueue (part a 84 b)))
 
-input-ok : (c : tie.Else3) → queueStands 8 (c .before .before .before .before .before .before .before .before .before .args .b .now) ≡ true
+input-ok : (c : tie.Else3) →
+    let else1 = c .before .before .before .before .before .before in let start = else1 .before .before .before in
+    queueStands 8 (start .args .b .now) ≡ true
 unfolding queueStands
 input-ok c = sym (c .before .queue-stands .ensures) ∙ not-false _ (c .if3 .left)
 
-output-ok : (c : tie.Else4) → queueStands 92 (c .before .before .before .before .before .before .before .before .before .before .before .before .args .b .now) ≡ true
+output-ok : (c : tie.Else4) →
+    let else2 = c .before .before .before .before .before .before in let start = else2 .before .before .before .before .before .before in
+    queueStands 92 (start .args .b .now) ≡ true
 unfolding queueStands
 output-ok c = sym (c .before .queue-stands2 .ensures) ∙ not-false _ (c .if4 .left)
 
@@ -40,8 +46,8 @@ all-zero-requires c κs = search needs
 
 returns : tie.Need-returns
 returns c =
-    let s = c .before .before .before .before in
-    c .all-zero .ensures ∙ ap (λ (n : ℕ). same (s .args .b .now) (zeros n)) (s .pre) ∙ sym (stands-vacant _ (c .before .if1 .taken))
+    let then1 = c .before in let start = then1 .before .before .before in
+    c .all-zero .ensures ∙ ap (λ (n : ℕ). same (start .args .b .now) (zeros n)) (start .pre) ∙ sym (stands-vacant _ (then1 .if1 .taken))
 
 sub-head-stands : tie.Need-sub-head-stands
 sub-head-stands c = search needs
@@ -58,7 +64,9 @@ head-stands-requires c κs =
     (length-take-le 8 (s .args .b .now) (omega (arith, s .pre)), getD-take 8 (s .args .b .now) 0 0 (lit< tt) ∙ c .before .if1 .left)
 
 returns-2 : tie.Need-returns-2
-returns-2 c = sym (stands-live _ (c .before .before .before .before .before .before .pre) (c .before .before .before .if1 .left) ∙ rw (sym (c .before .head-stands .ensures) ∙ not-true _ (c .if2 .taken)))
+returns-2 c =
+    let after-head-stands = c .before in let else1 = after-head-stands .before .before in let start = else1 .before .before .before in
+    sym (stands-live _ (start .pre) (else1 .if1 .left) ∙ rw (sym (after-head-stands .head-stands .ensures) ∙ not-true _ (c .if2 .taken)))
 
 sub-queue-stands : tie.Need-sub-queue-stands
 sub-queue-stands c = search needs
@@ -75,7 +83,9 @@ queue-stands-requires c κs = search needs
 returns-3 : tie.Need-returns-3
 unfolding queueStands
 returns-3 c =
-    sym (stands-live _ (c .before .before .before .before .before .before .before .before .before .pre) (c .before .before .before .before .before .before .if1 .left) ∙ rw (head-ok (c .before .before .before), sym (c .before .queue-stands .ensures) ∙ not-true _ (c .if3 .taken)))
+    let after-queue-stands = c .before in let else2 = after-queue-stands .before .before in let else1 = else2 .before .before .before in
+    let start = else1 .before .before .before in
+    sym (stands-live _ (start .pre) (else1 .if1 .left) ∙ rw (head-ok else2, sym (after-queue-stands .queue-stands .ensures) ∙ not-true _ (c .if3 .taken)))
 
 sub-queue-stands-2 : tie.Need-sub-queue-stands-2
 sub-queue-stands-2 c = search needs
@@ -92,8 +102,10 @@ queue-stands-requires-2 c κs = search needs
 returns-4 : tie.Need-returns-4
 unfolding queueStands
 returns-4 c =
-    sym (stands-live _ (c .before .before .before .before .before .before .before .before .before .before .before .before .pre) (c .before .before .before .before .before .before .before .before .before .if1 .left)
-    ∙ rw (head-ok (c .before .before .before .before .before .before), input-ok (c .before .before .before), sym (c .before .queue-stands2 .ensures) ∙ not-true _ (c .if4 .taken)))
+    let after-queue-stands2 = c .before in let else3 = after-queue-stands2 .before .before in let else2 = else3 .before .before .before in
+    let else1 = else2 .before .before .before in let start = else1 .before .before .before in
+    sym (stands-live _ (start .pre) (else1 .if1 .left)
+    ∙ rw (head-ok else2, input-ok else3, sym (after-queue-stands2 .queue-stands2 .ensures) ∙ not-true _ (c .if4 .taken)))
 
 sub-all-zero : tie.Need-sub-all-zero
 sub-all-zero c = search needs
@@ -110,10 +122,11 @@ all-zero-requires-2 c κs = search needs
 returns-5 : tie.Need-returns-5
 unfolding queueStands
 returns-5 c =
-    let s = c .before .before .before .before .before .before .before .before .before .before .before .before .before .before in
+    let else4 = c .before .before in let else3 = else4 .before .before .before in let else2 = else3 .before .before .before in
+    let else1 = else2 .before .before .before in let start = else1 .before .before .before in
     c .all-zero2 .ensures
-    ∙ ap (λ (n : ℕ). same (part 176 336 (s .args .b .now)) (zeros n)) (length-take-le 336 (drop 176 (s .args .b .now)) (rw length-drop (omega (arith, s .pre))))
-    ∙ sym (stands-live _ (s .pre) (c .before .before .before .before .before .before .before .before .before .before .before .if1 .left) ∙ rw (head-ok (c .before .before .before .before .before .before .before .before), input-ok (c .before .before .before .before .before), output-ok (c .before .before)))
+    ∙ ap (λ (n : ℕ). same (part 176 336 (start .args .b .now)) (zeros n)) (length-take-le 336 (drop 176 (start .args .b .now)) (rw length-drop (omega (arith, start .pre))))
+    ∙ sym (stands-live _ (start .pre) (else1 .if1 .left) ∙ rw (head-ok else2, input-ok else3, output-ok else4))
 
 pub place-stands-spec : {M : Type 1} → statement M
 place-stands-spec =

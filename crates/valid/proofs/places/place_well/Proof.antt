@@ -24,11 +24,15 @@ rules : (c : tie.Else1) (n : ℕ) (s : Stream) → sized (occupied n s) ≡ true
     → goodPlace (occupied n s) ≡ within (s .format) firstCoded lastCoded && (queueRules (s .inputs) && queueRules (s .outputs))
 rules c n s z e = wide-place n s z (ap (allOf u32) (sym e) ∙ all-words (c .before .before .before .args .b .now) (λ i. omega (arith, c .before .shared-slice-known2 .given i)))
 
-format-ok : (c : tie.Else3) (n : ℕ) (s : Stream) → c .before .before .before .before .before .before .args .b .now ≡ placeWords (occupied n s) → within (s .format) firstCoded lastCoded ≡ true
+format-ok : (c : tie.Else3) (n : ℕ) (s : Stream) →
+    let start = c .before .before .before .before .before .before in
+    start .args .b .now ≡ placeWords (occupied n s) → within (s .format) firstCoded lastCoded ≡ true
 format-ok c n s e =
     within-true (s .format) firstCoded lastCoded (rw (format-word _ n s e) at (c .before .if2 .left)) (rw (format-word _ n s e) at (c .if3 .left))
 
-input-test : (c : tie.After-queue-well) (n : ℕ) (s : Stream) → sized (occupied n s) ≡ true → c .before .before .before .before .before .before .before .before .args .b .now ≡ placeWords (occupied n s) → c .queue-well .result ≡ queueRules (s .inputs)
+input-test : (c : tie.After-queue-well) (n : ℕ) (s : Stream) →
+    let after-shared-slice-known2 = c .before .before .before .before .before .before in let start = after-shared-slice-known2 .before .before in
+    sized (occupied n s) ≡ true → start .args .b .now ≡ placeWords (occupied n s) → c .queue-well .result ≡ queueRules (s .inputs)
 input-test c n s z e = c .queue-well .ensures (s .inputs) (queue-read n s z input 8 refl _ e)
 
 shared-slice-read-if1 : tie.Need-shared-slice-read-if1
@@ -64,9 +68,12 @@ queue-well-requires : tie.Need-queue-well-requires
 queue-well-requires c κs = search needs
 
 returns-4 : tie.Need-returns-4
-returns-4 c vacant z e = absurd (c .before .before .before .before .before .before .if1 .left (vacant-word e))
+returns-4 c vacant z e =
+    let else1 = c .before .before .before .before .before .before in
+    absurd (else1 .if1 .left (vacant-word e))
 returns-4 c (occupied n s) z e =
-    sym (rules (c .before .before .before .before .before .before) n s z e ∙ rw (format-ok (c .before .before .before) n s e, sym (input-test (c .before) n s z e) ∙ not-true _ (c .if4 .taken)))
+    let after-queue-well = c .before in let else3 = after-queue-well .before .before in let else1 = else3 .before .before .before in
+    sym (rules else1 n s z e ∙ rw (format-ok else3 n s e, sym (input-test after-queue-well n s z e) ∙ not-true _ (c .if4 .taken)))
 
 sub-queue-well-2 : tie.Need-sub-queue-well-2
 sub-queue-well-2 c = search needs
@@ -81,10 +88,14 @@ queue-well-requires-2 : tie.Need-queue-well-requires-2
 queue-well-requires-2 c κs = search needs
 
 returns-5 : tie.Need-returns-5
-returns-5 c vacant z e = absurd (c .before .before .before .before .before .before .before .before .if1 .left (vacant-word e))
+returns-5 c vacant z e =
+    let else2 = c .before .before .before .before .before .before in let else1 = else2 .before .before in
+    absurd (else1 .if1 .left (vacant-word e))
 returns-5 c (occupied n s) z e =
+    let else4 = c .before .before in let after-queue-well = else4 .before in let else3 = after-queue-well .before .before in
+    let else1 = else3 .before .before .before in
     c .queue-well2 .ensures (s .outputs) (queue-read n s z output 92 refl _ e)
-    ∙ sym (rules (c .before .before .before .before .before .before .before .before) n s z e ∙ rw (format-ok (c .before .before .before .before .before) n s e, sym (input-test (c .before .before .before) n s z e) ∙ not-false _ (c .before .before .if4 .left)))
+    ∙ sym (rules else1 n s z e ∙ rw (format-ok else3 n s e, sym (input-test after-queue-well n s z e) ∙ not-false _ (else4 .if4 .left)))
 
 pub place-well-spec : {M : Type 1} → statement M
 place-well-spec =

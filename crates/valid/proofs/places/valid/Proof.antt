@@ -20,9 +20,12 @@ stands c = same-true _ _ (sym (c .before .table-stands .ensures) ∙ not-false _
 standing : (c : tie.Else1) → same (c .before .before .before .args .t .now) (encode (decode (c .before .before .before .args .t .now))) ≡ true
 standing c = sym (c .before .table-stands .ensures) ∙ not-false _ (c .if1 .left)
 
-well : (c : tie.After-places-well) → c .places-well .result ≡ allBelow 8 (λ k. goodPlace (placeAt k (decode (c .before .before .before .before .args .t .now))))
+well : (c : tie.After-places-well) →
+    let start = c .before .before .before .before in
+    c .places-well .result ≡ allBelow 8 (λ k. goodPlace (placeAt k (decode (start .args .t .now))))
 well c =
-    let t = c .before .before .before .before .args .t .now in c .places-well .ensures (decode t) (decode-sized t) (stands (c .before))
+    let else1 = c .before in let start = else1 .before .before .before in
+    let t = start .args .t .now in c .places-well .ensures (decode t) (decode-sized t) (stands else1)
 
 table-stands-requires : tie.Need-table-stands-requires
 table-stands-requires c κs = search needs
@@ -34,16 +37,19 @@ places-well-requires : tie.Need-places-well-requires
 places-well-requires c κs = search needs
 
 returns-2 : tie.Need-returns-2
-returns-2 c = sym (valid-test _ (c .before .before .before .before .before .pre) ∙ rw (standing (c .before .before), sym (well (c .before)) ∙ not-true _ (c .if2 .taken)))
+returns-2 c =
+    let after-places-well = c .before in let else1 = after-places-well .before in let start = else1 .before .before .before in
+    sym (valid-test _ (start .pre) ∙ rw (standing else1, sym (well after-places-well) ∙ not-true _ (c .if2 .taken)))
 
 places-distinct-requires : tie.Need-places-distinct-requires
 places-distinct-requires c κs = search needs
 
 returns-3 : tie.Need-returns-3
 returns-3 c =
-    let t = c .before .before .before .before .before .before .args .t .now in
-    c .places-distinct .ensures (decode t) (decode-sized t) (stands (c .before .before .before))
-    ∙ sym (valid-test _ (c .before .before .before .before .before .before .pre) ∙ rw (standing (c .before .before .before), sym (well (c .before .before)) ∙ not-false _ (c .before .if2 .left)))
+    let else2 = c .before in let after-places-well = else2 .before in let else1 = after-places-well .before in let start = else1 .before .before .before in
+    let t = start .args .t .now in
+    c .places-distinct .ensures (decode t) (decode-sized t) (stands else1)
+    ∙ sym (valid-test _ (start .pre) ∙ rw (standing else1, sym (well after-places-well) ∙ not-false _ (else2 .if2 .left)))
 
 pub valid-spec : {M : Type 1} → statement M
 valid-spec =

@@ -54,10 +54,12 @@ slot-stands-requires c κs = search needs
 
 returns-2 : tie.Need-returns-2 Inv-loop μ-loop
 returns-2 c =
-    let s = c .before .before .before .before .before .before .before .before in
-    let l = c .before .before .before .before .loop in
-    let test = c .before .slot-stands .ensures ∙ ap (λ (n : ℕ). slotStands (part (4 + 5 * l .i) n (s .args .q .now))) (add-sub-cancel-left (4 + 5 * l .i) 5) in
-    sym (queue-test _ (s .pre) ∙ rw (le-leb _ _ (c .before .before .before .before .before .if1 .left)) (all-fails (λ j. slotStands (part (4 + 5 * j) 5 (s .args .q .now))) 16 (l .i) (search needs) (sym test ∙ not-true _ (c .if2 .taken))))
+    let after-slot-stands = c .before in let at-loop = after-slot-stands .before .before .before in let else1 = at-loop .before in
+    let start = else1 .before .before .before in
+    let l = at-loop .loop in
+    let test = after-slot-stands .slot-stands .ensures ∙ ap (λ (n : ℕ). slotStands (part (4 + 5 * l .i) n (start .args .q .now))) (add-sub-cancel-left (4 + 5 * l .i) 5) in
+    sym (queue-test _ (start .pre) ∙ rw (le-leb _ _ (else1 .if1 .left))
+    (all-fails (λ j. slotStands (part (4 + 5 * j) 5 (start .args .q .now))) 16 (l .i) (search needs) (sym test ∙ not-true _ (c .if2 .taken))))
 
 add-i : tie.Need-add-i Inv-loop μ-loop
 add-i c = search needs
@@ -67,10 +69,10 @@ loop-less c = search needs
 
 loop-again : tie.Need-loop-again Inv-loop μ-loop
 loop-again c =
-    let s = c .before .before .before .before .before .before .before .before in
-    let l = c .before .before .before .before .loop in
-    let test = c .before .slot-stands .ensures ∙ ap (λ (n : ℕ). slotStands (part (4 + 5 * l .i) n (s .args .q .now))) (add-sub-cancel-left (4 + 5 * l .i) 5) in
-    (search needs, all-more (λ j. slotStands (part (4 + 5 * j) 5 (s .args .q .now))) (l .i) (l .inv .1) (sym test ∙ not-false _ (c .if2 .left)))
+    let after-slot-stands = c .before in let at-loop = after-slot-stands .before .before .before in let start = at-loop .before .before .before .before in
+    let l = at-loop .loop in
+    let test = after-slot-stands .slot-stands .ensures ∙ ap (λ (n : ℕ). slotStands (part (4 + 5 * l .i) n (start .args .q .now))) (add-sub-cancel-left (4 + 5 * l .i) 5) in
+    (search needs, all-more (λ j. slotStands (part (4 + 5 * j) 5 (start .args .q .now))) (l .i) (l .inv .1) (sym test ∙ not-false _ (c .if2 .left)))
 
 returns-3 : tie.Need-returns-3 Inv-loop μ-loop
 returns-3 c =

@@ -16,7 +16,9 @@ use Rattle.valid.proofs.queues.queue_well.Tie as tie
 width-test : (c : tie.After-good-extent) (Q : Queue) → c .before .before .before .args .q .now ≡ queueWords Q → not (badExtent (Q .width)) ≡ c .good-extent .result
 width-test c Q e = sym (c .good-extent .ensures ∙ ap (λ (n : ℕ). not (badExtent n)) (width-word _ Q e))
 
-height-test : (c : tie.After-good-extent2) (Q : Queue) → c .before .before .before .before .before .before .args .q .now ≡ queueWords Q → not (badExtent (Q .height)) ≡ c .good-extent2 .result
+height-test : (c : tie.After-good-extent2) (Q : Queue) →
+    let start = c .before .before .before .before .before .before in
+    start .args .q .now ≡ queueWords Q → not (badExtent (Q .height)) ≡ c .good-extent2 .result
 height-test c Q e = sym (c .good-extent2 .ensures ∙ ap (λ (n : ℕ). not (badExtent n)) (height-word _ Q e))
 
 shared-slice-read-good-extent : tie.Need-shared-slice-read-good-extent
@@ -36,16 +38,19 @@ good-extent-requires-2 c κs = search needs
 
 returns-2 : tie.Need-returns-2
 returns-2 c Q e =
-    and-holds _ _ _ (width-test (c .before .before .before .before) Q e ∙ not-false _ (c .before .before .before .if1 .left))
-    (and-fails _ _ (height-test (c .before) Q e ∙ not-true _ (c .if2 .taken)))
+    let after-good-extent2 = c .before in let else1 = after-good-extent2 .before .before in let after-good-extent = else1 .before in
+    and-holds _ _ _ (width-test after-good-extent Q e ∙ not-false _ (else1 .if1 .left))
+    (and-fails _ _ (height-test after-good-extent2 Q e ∙ not-true _ (c .if2 .taken)))
 
 numbers-distinct-requires : tie.Need-numbers-distinct-requires
 numbers-distinct-requires c κs = search needs
 
 returns-3 : tie.Need-returns-3
 returns-3 c Q e =
-    and-holds _ _ _ (width-test (c .before .before .before .before .before) Q e ∙ not-false _ (c .before .before .before .before .if1 .left))
-    (and-holds _ _ _ (height-test (c .before .before) Q e ∙ not-false _ (c .before .if2 .left)) (c .numbers-distinct .ensures Q e))
+    let else2 = c .before in let after-good-extent2 = else2 .before in let else1 = after-good-extent2 .before .before in
+    let after-good-extent = else1 .before in
+    and-holds _ _ _ (width-test after-good-extent Q e ∙ not-false _ (else1 .if1 .left))
+    (and-holds _ _ _ (height-test after-good-extent2 Q e ∙ not-false _ (else2 .if2 .left)) (c .numbers-distinct .ensures Q e))
 
 pub queue-well-spec : {M : Type 1} → statement M
 queue-well-spec =

@@ -23,7 +23,9 @@ all-zero-requires : tie.Need-all-zero-requires
 all-zero-requires c κs = search needs
 
 returns : tie.Need-returns
-returns c = c .all-zero .ensures ∙ free-words _ (c .before .before .before .before .before .pre) (c .before .before .if1 .taken)
+returns c =
+    let then1 = c .before .before in let start = then1 .before .before .before in
+    c .all-zero .ensures ∙ free-words _ (start .pre) (then1 .if1 .taken)
 
 returns-2 : tie.Need-returns-2
 returns-2 c =
@@ -31,7 +33,9 @@ returns-2 c =
     queued-words w (c .before .before .before .before .pre) (c .if2 .taken) (omega (arith, c .before .before .before .shared-slice-known .given 3))
 
 returns-3 : tie.Need-returns-3
-returns-3 c = high-words _ (c .before .before .before .before .before .pre) (c .if3 .taken)
+returns-3 c =
+    let start = c .before .before .before .before .before in
+    high-words _ (start .pre) (c .if3 .taken)
 
 sub-all-zero-2 : tie.Need-sub-all-zero-2
 sub-all-zero-2 c = search needs
@@ -47,8 +51,9 @@ all-zero-requires-2 c κs = search needs
 
 returns-4 : tie.Need-returns-4
 returns-4 c =
+    let else3 = c .before .before in let else2 = else3 .before in let else1 = else2 .before in let start = else1 .before .before .before in
     c .all-zero2 .ensures
-    ∙ other-words _ (c .before .before .before .before .before .before .before .pre) (c .before .before .before .before .if1 .left) (c .before .before .before .if2 .left) (c .before .before .if3 .left)
+    ∙ other-words _ (start .pre) (else1 .if1 .left) (else2 .if2 .left) (else3 .if3 .left)
 
 pub slot-stands-spec : {M : Type 1} → statement M
 slot-stands-spec =

@@ -32,13 +32,13 @@ loop-less c = search needs
 
 loop-again : tie.Need-loop-again Inv-loop μ-loop
 loop-again c =
-    let l = c .before .before .before .before .before .loop in
-    let s = c .before .before .before .before .before .before .before in (
+    let after-set-free = c .before .before in let at-loop = after-set-free .before .before .before in let start = at-loop .before .before in
+    let l = at-loop .loop in (
       search needs,
       search needs,
       λ Q e.
-          c .before .before .set-free .ensures (withSlots (upTo (λ x. free) (l .k) (Q .slots)) Q) (l .inv .2 Q e)
-          ∙ ap (λ (t : List Slot). queueWords (withSlots t Q)) (up-more (λ x. free) (l .k) (Q .slots) (omega (arith, held-slots _ Q (s .pre) e))),
+          after-set-free .set-free .ensures (withSlots (upTo (λ x. free) (l .k) (Q .slots)) Q) (l .inv .2 Q e)
+          ∙ ap (λ (t : List Slot). queueWords (withSlots t Q)) (up-more (λ x. free) (l .k) (Q .slots) (omega (arith, held-slots _ Q (start .pre) e))),
     )
 
 same-length : tie.Need-same-length Inv-loop μ-loop

@@ -33,13 +33,13 @@ loop-less c = search needs
 
 loop-again : tie.Need-loop-again Inv-loop μ-loop
 loop-again c =
-    let l = c .before .before .before .before .before .loop in
-    let s = c .before .before .before .before .before .before .before in (
+    let after-stop-slot = c .before .before in let at-loop = after-stop-slot .before .before .before in let start = at-loop .before .before in
+    let l = at-loop .loop in (
       search needs,
       search needs,
       λ Q e.
-          c .before .before .stop-slot .ensures (withSlots (upTo stoppedSlot (l .i) (Q .slots)) Q) (l .inv .2 Q e)
-          ∙ ap (λ (t : List Slot). queueWords (withSlots t Q)) (up-more stoppedSlot (l .i) (Q .slots) (omega (arith, held-slots _ Q (s .pre) e))),
+          after-stop-slot .stop-slot .ensures (withSlots (upTo stoppedSlot (l .i) (Q .slots)) Q) (l .inv .2 Q e)
+          ∙ ap (λ (t : List Slot). queueWords (withSlots t Q)) (up-more stoppedSlot (l .i) (Q .slots) (omega (arith, held-slots _ Q (start .pre) e))),
     )
 
 same-length : tie.Need-same-length Inv-loop μ-loop

@@ -21,12 +21,12 @@ find-resource-requires c κs = search needs
 
 returns-2 : tie.Need-returns-2
 returns-2 c =
-    let s = c .before .before .before .before in
-    let lowest = c .before .before .lowest-queued .result in (
+    let else1 = c .before in let after-lowest-queued = else1 .before in let start = after-lowest-queued .before .before in
+    let lowest = after-lowest-queued .lowest-queued .result in (
       c .find-resource .ensures .0,
       λ Q e.
           c .find-resource .ensures .1 Q e
-          ∙ sym (next-at (s .args .least) (Q .slots) lowest (sym (c .before .before .lowest-queued .ensures Q e) ∙ number-is lowest (c .before .if1 .left))),
+          ∙ sym (next-at (start .args .least) (Q .slots) lowest (sym (after-lowest-queued .lowest-queued .ensures Q e) ∙ number-is lowest (else1 .if1 .left))),
     )
 
 pub next-queued-spec : {M : Type 1} → statement M

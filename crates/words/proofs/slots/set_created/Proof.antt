@@ -12,7 +12,9 @@ same-length : tie.Need-same-length
 same-length c = search needs
 
 returns : tie.Need-returns
-returns c Q e = c .before .before .write-slot .ensures Q (resource (c .before .before .before .before .before .args .number) created) e refl
+returns c Q e =
+    let after-write-slot = c .before .before in let start = after-write-slot .before .before .before in
+    after-write-slot .write-slot .ensures Q (resource (start .args .number) created) e refl
 
 pub set-created-spec : {M : Type 1} → statement M
 set-created-spec = tie.close (tie.spec write-slot-requires same-length returns)

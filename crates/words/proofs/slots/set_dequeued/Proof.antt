@@ -16,8 +16,9 @@ same-length c = search needs
 
 returns : tie.Need-returns
 returns c Q e =
-    let s = c .before .before .before .before .before .before .before in
-    c .before .before .write-slot .ensures Q (resource (numberIn (slotAt (s .args .k) (Q .slots))) dequeued) e (rw (c .before .before .before .before .slot-number .ensures Q e))
+    let after-write-slot = c .before .before in let after-slot-number = after-write-slot .before .before in
+    let start = after-slot-number .before .before .before in
+    after-write-slot .write-slot .ensures Q (resource (numberIn (slotAt (start .args .k) (Q .slots))) dequeued) e (rw (after-slot-number .slot-number .ensures Q e))
 
 pub set-dequeued-spec : {M : Type 1} → statement M
 set-dequeued-spec =

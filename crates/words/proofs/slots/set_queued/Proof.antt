@@ -22,8 +22,10 @@ same-length c = search needs
 
 returns : tie.Need-returns
 returns c Q e =
-    let s = c .before .before .before .before .before .before .before in
-    c .before .before .write-slot .ensures Q (resource (numberIn (slotAt (s .args .k) (Q .slots))) (queued (s .args .ticket) (s .args .timestamp))) e (rw (c .before .before .before .before .slot-number .ensures Q e))
+    let after-write-slot = c .before .before in let after-slot-number = after-write-slot .before .before in
+    let start = after-slot-number .before .before .before in
+    after-write-slot .write-slot .ensures Q
+    (resource (numberIn (slotAt (start .args .k) (Q .slots))) (queued (start .args .ticket) (start .args .timestamp))) e (rw (after-slot-number .slot-number .ensures Q e))
 
 pub set-queued-spec : {M : Type 1} → statement M
 set-queued-spec =

@@ -21,9 +21,11 @@ same-length c = search needs
 
 returns : tie.Need-returns
 returns c Q e =
-    let k = c .before .before .before .before .before .before .before .before .args .k in
-    let test = sym (c .before .before .before .before .before .slot-queued .ensures Q e) ∙ c .before .before .before .before .if1 .taken in
-    c .before .before .set-dequeued .ensures Q e
+    let after-set-dequeued = c .before .before in let then1 = after-set-dequeued .before .before in let after-slot-queued = then1 .before in
+    let start = after-slot-queued .before .before .before in
+    let k = start .args .k in
+    let test = sym (after-slot-queued .slot-queued .ensures Q e) ∙ then1 .if1 .taken in
+    after-set-dequeued .set-dequeued .ensures Q e
     ∙ ap (λ (x : Slot). queueWords (withSlots (set (Q .slots) k x) Q)) (stop-queued (slotAt k (Q .slots)) test)
 
 same-length-2 : tie.Need-same-length-2
@@ -31,8 +33,9 @@ same-length-2 c = search needs
 
 returns-2 : tie.Need-returns-2
 returns-2 c Q e =
-    let k = c .before .before .before .before .args .k in
-    let test = sym (c .before .slot-queued .ensures Q e) ∙ c .if1 .left in
+    let after-slot-queued = c .before in let start = after-slot-queued .before .before .before in
+    let k = start .args .k in
+    let test = sym (after-slot-queued .slot-queued .ensures Q e) ∙ c .if1 .left in
     e ∙ ap (λ (s : List Slot). queueWords (withSlots s Q)) (sym (stop-none k (Q .slots) test))
 
 pub stop-slot-spec : {M : Type 1} → statement M
