@@ -12,6 +12,7 @@ use lib.Seq.{drop-cons}
 use borrow.Author.Tests.{ltb-true, lt-ltb, le-ltb}
 use Rattle.laws.specs.Lists.{allOf}
 use Rattle.laws.proofs.Tests.{never, both, and-left, and-right}
+use Rattle.laws.proofs.Lists.{all-true}
 use Rattle.laws.proofs.Pieces.{pieces-length}
 use Rattle.line.specs.Hex.{digitOf, isDigit, isHex, hexBytes, hexPair, hexText}
 
@@ -121,4 +122,4 @@ unfolding hexPair
 pair-length b = refl
 
 pub length-text : (bytes : List ℕ) → length (hexText bytes) ≡ 2 * length bytes
-length-text bytes = pieces-length hexPair 2 pair-length bytes
+length-text bytes = pieces-length hexPair 2 (λ b. true) (λ b _. pair-length b) bytes (all-true bytes)

@@ -18,7 +18,7 @@ use Rattle.field.specs.Field.{field}
 use Rattle.field.proofs.Laws.{field-below}
 use Rattle.model.specs.Numbers.{tableWords, answerRoom}
 use Rattle.model.specs.Answers.{bytesOf, answersIn, rewritten, readFrom}
-use Rattle.model.specs.Steps.{Act, Step, streamOf, Outcome, perform, hostRefusal}
+use Rattle.model.specs.Steps.{Act, Step, Outcome, perform, hostRefusal}
 use Rattle.model.specs.Steps as steps
 use Rattle.model.specs.WellFormed.{u8, u32, u64, wellFormed, goodSteps}
 use Rattle.model.specs.Tables.{Layout, Lawful, Effect, untouched, valid, carriedOut, effect, freshen, tableEntries}
@@ -72,7 +72,7 @@ module _ (L : Layout) (t : List ℕ) (a : Act) (room : List ℕ) where
   k = hostRefusal (length t) (length room) (valid L t)
 
   abbrev outcome : Outcome
-  outcome = perform (L .decode (take tableWords t)) a (streamOf a)
+  outcome = perform (L .decode (take tableWords t)) a
 
   unserved : eqb k 0 ≡ false → effect L t a room ≡ untouched k t room
   unfolding effect

@@ -23,7 +23,7 @@ pub fn put_outcome(refusal: u32, answers: &[u8], out: &mut [u8]) -> usize
     if refusal == 0 {
         return put_answers(answers, out);
     }
-    put_refusal(refusal as u8, out)
+    put_refusal(refusal, out)
 }
 
 // Writes a line for each of the answers; returns the place after the last.
@@ -55,13 +55,13 @@ fn put_answer(answer: &[u8], out: &mut [u8], at: usize) -> usize
 }
 
 // Writes the line of a refusal, 5 bytes, at the start of `out`; returns the place after it.
-pub fn put_refusal(number: u8, out: &mut [u8]) -> usize
-    requires { ⌜ 5 ≤ length (now out) ⌝ }
+pub fn put_refusal(number: u32, out: &mut [u8]) -> usize
+    requires { ⌜ (number < 256) × (5 ≤ length (now out)) ⌝ }
     ensures bound { λ r. ⌜ r ≤ 5 ⌝ }
     ensures wrote { λ r. ⌜ Wrote (now (out .entry)) (now (out .exit)) 0 r (refusalLine number) ⌝ }
 {
     hex::put_byte(REFUSAL, out, 0);
-    hex::put_byte(number, out, 2);
+    hex::put_byte(number as u8, out, 2);
     out[4] = NEWLINE;
     5
 }

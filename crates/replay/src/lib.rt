@@ -59,7 +59,9 @@ pub fn finish(table: &mut [u32], held: &[u8; 8379], have: usize, out: &mut [u8; 
     ensures fits { λ r. ⌜ r ≤ length (now (out .exit)) ⌝ }
     ensures means { λ r. ⌜ Logs (lastStep layout (record { table = now (table .entry); line = take have (now (held .entry)) })) r (now (table .exit)) (now (out .entry)) (now (out .exit)) ⌝ }
 {
-    lines::finish(table, held, kept(have), out)
+    let mut frame = [0u8; 4184];
+    let mut answers = [0u8; 1056];
+    lines::finish(table, held, kept(have), &mut frame, &mut answers, out)
 }
 
 // No more is kept than there is room for.

@@ -4,7 +4,7 @@ ghost use Prim.Native.Nat.{_≤_};
 ghost use lib.ListN.{length, take};
 ghost use Rattle.model.specs.Tables.{effect};
 ghost use Rattle.table.specs.Blocks.{layout};
-ghost use Rattle.decoder.specs.Entry.{asEffect};
+ghost use Rattle.entry.specs.Entry.{asEffect};
 ghost use Rattle.line.specs.Line.{framed, countIn};
 ghost use Rattle.line.specs.Split.{lineRoom};
 ghost use Rattle.line.specs.Log.{lineStep};
@@ -13,10 +13,8 @@ ghost use Rattle.replay.specs.Fed.{Logs, Did};
 use crate::Fed;
 use line::Decoded;
 use line::Frame;
-use pending::Outcome;
-
-// The refusal of a line that is no frame.
-const NO_FRAME: u8 = 7;
+use protocol::NO_FRAME;
+use protocol::Outcome;
 
 // Takes a piece up to its first byte 10 behind the `have` bytes that `held` keeps of the line, and steps the line where it ends.
 pub fn feed(
@@ -51,15 +49,22 @@ pub fn feed(
 }
 
 // Steps the last line where the log ends without byte 10, unless it is empty.
-pub fn finish(table: &mut [u32], held: &[u8], have: usize, out: &mut [u8; 2112]) -> usize
-    requires { ⌜ have ≤ length (now held) ⌝ }
-    ensures fits { λ r. ⌜ r ≤ length (now (out .exit)) ⌝ }
+pub fn finish(
+    table: &mut [u32],
+    held: &[u8],
+    have: usize,
+    frame: &mut [u8],
+    answers: &mut [u8],
+    out: &mut [u8],
+) -> usize
+    requires { ⌜ (have ≤ length (now held)) × (4184 ≤ length (now frame)) × (1056 ≤ length (now answers)) × (2112 ≤ length (now out)) ⌝ }
+    ensures fits { λ r. ⌜ r ≤ length (now (out .entry)) ⌝ }
     ensures means { λ r. ⌜ Logs (lastStep layout (record { table = now (table .entry); line = take have (now (held .entry)) })) r (now (table .exit)) (now (out .entry)) (now (out .exit)) ⌝ }
 {
     if have == 0 {
         return 0;
     }
-    crate::log_line(table, &held[..have], out)
+    log_line(table, &held[..have], frame, answers, out)
 }
 
 // Steps a line on the table and writes its lines from the start of `out`; returns the place after them. `frame` and `answers` are lent for
@@ -92,7 +97,7 @@ fn carry_out(table: &mut [u32], found: Frame, frame: &[u8], answers: &mut [u8]) 
 {
     match found {
         Frame::Command { ticket, count } => {
-            decoder::virtio_video_command(table, ticket, &frame[..count], answers)
+            entry::command(table, ticket, &frame[..count], answers)
         }
         Frame::Finish {
             stream,
@@ -100,15 +105,7 @@ fn carry_out(table: &mut [u32], found: Frame, frame: &[u8], answers: &mut [u8]) 
             resource,
             flags,
             timestamp,
-        } => decoder::virtio_video_finish(
-            table,
-            stream,
-            queue,
-            resource,
-            flags,
-            timestamp,
-            answers,
-        ),
-        Frame::Drained { stream } => decoder::virtio_video_drained(table, stream, answers),
+        } => entry::finish(table, stream, queue, resource, flags, timestamp, answers),
+        Frame::Drained { stream } => entry::drained(table, stream, answers),
     }
 }

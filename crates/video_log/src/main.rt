@@ -57,8 +57,8 @@ fn read_all(table: &mut [u32], held: &mut [u8; 8379]) -> usize {
 }
 
 fn main() {
-    let mut table = [0u32; 4096];
-    decoder::virtio_video_fresh(&mut table);
+    let mut table = [0u32; table::TABLE_WORDS];
+    table::fresh(&mut table);
     let mut held = [0u8; 8379];
     let have = read_all(&mut table, &mut held);
     let mut out = [0u8; 2112];

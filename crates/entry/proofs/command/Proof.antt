@@ -3,9 +3,10 @@ use mathlib.Core.Path.{refl}
 use native.Mathlib.Omega.{arith}
 use borrow.Author.Tests.{lt-ltb, le-ltb}
 use lib.Seq.{length-take-le}
+use Rattle.model.specs.Numbers.{tableWords}
 use Rattle.model.specs.Frames.{streamId}
 use Rattle.model.specs.Steps.{command, streamOf}
-use Rattle.entry.proofs.Effects.{turned-away, table-words, room-bytes, carried, unnamed, few}
+use Rattle.entry.proofs.Effects.{turned-away, stands, table-words, room-bytes, carried, unnamed, few}
 use borrow.Author.Needs.{needs}
 use Rattle.entry.proofs.command.Statement.{statement}
 use Rattle.entry.proofs.command.Tie as tie
@@ -59,8 +60,12 @@ command-requires c κs =
     let a = start .args in
     let act = command (a .ticket) (a .frame .now) in
     let e = after-host-refusal .host-refusal .ensures in
-    let z = else1 .if1 .left in
-    (length-take-le 4096 (a .table .now) (table-words (a .table .now) (a .answers .now) act e z), else2 .if2 .left, room-bytes (a .table .now) (a .answers .now) act e z)
+    let z = else1 .if1 .left in (
+      length-take-le tableWords (a .table .now) (table-words (a .table .now) (a .answers .now) act e z),
+      record { device = _; encodes = stands (a .table .now) (a .answers .now) act e z },
+      else2 .if2 .left,
+      room-bytes (a .table .now) (a .answers .now) act e z,
+    )
 
 cast-t16 : tie.Need-cast-t16
 unfolding streamOf

@@ -1,6 +1,7 @@
 -- `entry::finish` meets its contract: the first tests, then the step.
 use mathlib.Core.Path.{refl}
 use lib.Seq.{length-take-le}
+use Rattle.model.specs.Numbers.{tableWords}
 use Rattle.model.specs.Steps.{finish, streamOf}
 use Rattle.entry.proofs.Effects.{turned-away, table-words, room-bytes, carried}
 use borrow.Author.Needs.{needs}
@@ -41,7 +42,7 @@ finish-requires c κs =
     let act = finish (a .stream) (a .queue) (a .resource) (a .flags) (a .timestamp) in
     let e = after-host-refusal .host-refusal .ensures in
     let z = else1 .if1 .left in
-    (length-take-le 4096 (a .table .now) (table-words (a .table .now) (a .answers .now) act e z), room-bytes (a .table .now) (a .answers .now) act e z)
+    (length-take-le tableWords (a .table .now) (table-words (a .table .now) (a .answers .now) act e z), room-bytes (a .table .now) (a .answers .now) act e z)
 
 same-length-2 : tie.Need-same-length-2
 same-length-2 c = search needs

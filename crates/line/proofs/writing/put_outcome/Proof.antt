@@ -18,9 +18,6 @@ returns c =
       rw (eq-eqb (start .args .refusal) 0 (then1 .if1 .taken)) (after-put-answers .put-answers .ensures .1),
     )
 
-cast-put-refusal : tie.Need-cast-put-refusal
-cast-put-refusal c = search needs
-
 put-refusal-requires : tie.Need-put-refusal-requires
 put-refusal-requires c κs = search needs
 
@@ -41,7 +38,6 @@ put-outcome-spec =
     put-answers-requires
     same-length
     returns
-    cast-put-refusal
     put-refusal-requires
     same-length-2
     returns-2)

@@ -12,6 +12,9 @@ use Rattle.line.proofs.writing.put_refusal.Tie as tie
 put-byte-requires : tie.Need-put-byte-requires
 put-byte-requires c κs = search needs
 
+cast-put-byte : tie.Need-cast-put-byte
+cast-put-byte c = search needs
+
 put-byte-requires-2 : tie.Need-put-byte-requires-2
 put-byte-requires-2 c κs = search needs
 
@@ -33,4 +36,11 @@ returns c = (
 
 pub put-refusal-spec : {M : Type 1} → statement M
 put-refusal-spec =
-    tie.close (tie.spec put-byte-requires put-byte-requires-2 slice-write-out same-length returns)
+    tie.close
+    (tie.spec
+    put-byte-requires
+    cast-put-byte
+    put-byte-requires-2
+    slice-write-out
+    same-length
+    returns)

@@ -15,25 +15,25 @@ use Rattle.replay.proofs.lines.carry_out.Tie as tie
 enum-known-found : tie.Need-enum-known-found
 enum-known-found c = search needs
 
-slice-aggregate-virtio-video-command : tie.Need-slice-aggregate-virtio-video-command
-slice-aggregate-virtio-video-command c =
+slice-aggregate-command : tie.Need-slice-aggregate-command
+slice-aggregate-command c =
     let after-found = c .before .before .before in let start = after-found .before .before .before .before .before in
     sym (length-take-le _ _ (subst (λ (f : Frame). countIn f ≤ length (now (start .args .frame))) (after-found .found .given .1) (start .pre)))
 
-virtio-video-command-requires : tie.Need-virtio-video-command-requires
-virtio-video-command-requires c κs = search needs
+command-requires : tie.Need-command-requires
+command-requires c κs = search needs
 
 enum-known-found-2 : tie.Need-enum-known-found-2
 enum-known-found-2 c = search needs
 
-virtio-video-finish-requires : tie.Need-virtio-video-finish-requires
-virtio-video-finish-requires c κs = search needs
+finish-requires : tie.Need-finish-requires
+finish-requires c κs = search needs
 
 enum-known-found-3 : tie.Need-enum-known-found-3
 enum-known-found-3 c = search needs
 
-virtio-video-drained-requires : tie.Need-virtio-video-drained-requires
-virtio-video-drained-requires c κs = search needs
+drained-requires : tie.Need-drained-requires
+drained-requires c κs = search needs
 
 same-length : tie.Need-same-length
 same-length c = search needs
@@ -43,9 +43,9 @@ same-length-2 c = search needs
 
 returns : tie.Need-returns
 returns c =
-    let after-virtio-video-command = c .before .before .before .before in
-    let after-found = after-virtio-video-command .before .before .before .before .before in let start = after-found .before .before .before .before .before in
-    after-virtio-video-command .virtio-video-command .ensures
+    let after-command = c .before .before .before .before in
+    let after-found = after-command .before .before .before .before .before in let start = after-found .before .before .before .before .before in
+    after-command .command .ensures
     ∙ ap (λ (f : Frame). effect layout (now (start .args .table)) (framed f (now (start .args .frame))) (now (start .args .answers))) (sym (after-found .found .given .1))
 
 same-length-3 : tie.Need-same-length-3
@@ -56,9 +56,9 @@ same-length-4 c = search needs
 
 returns-2 : tie.Need-returns-2
 returns-2 c =
-    let after-virtio-video-finish = c .before .before .before .before in let after-found2 = after-virtio-video-finish .before .before .before .before in
+    let after-finish = c .before .before .before .before in let after-found2 = after-finish .before .before .before .before in
     let start = after-found2 .before .before .before .before .before in
-    after-virtio-video-finish .virtio-video-finish .ensures
+    after-finish .finish .ensures
     ∙ ap (λ (f : Frame). effect layout (now (start .args .table)) (framed f (now (start .args .frame))) (now (start .args .answers))) (sym (after-found2 .found2 .given .1))
 
 same-length-5 : tie.Need-same-length-5
@@ -69,9 +69,9 @@ same-length-6 c = search needs
 
 returns-3 : tie.Need-returns-3
 returns-3 c =
-    let after-virtio-video-drained = c .before .before .before .before in let after-found3 = after-virtio-video-drained .before .before .before .before in
+    let after-drained = c .before .before .before .before in let after-found3 = after-drained .before .before .before .before in
     let start = after-found3 .before .before .before .before .before in
-    after-virtio-video-drained .virtio-video-drained .ensures
+    after-drained .drained .ensures
     ∙ ap (λ (f : Frame). effect layout (now (start .args .table)) (framed f (now (start .args .frame))) (now (start .args .answers))) (sym (after-found3 .found3 .given .1))
 
 pub carry-out-spec : {M : Type 1} → statement M
@@ -79,12 +79,12 @@ carry-out-spec =
     tie.close
     (tie.spec
     enum-known-found
-    slice-aggregate-virtio-video-command
-    virtio-video-command-requires
+    slice-aggregate-command
+    command-requires
     enum-known-found-2
-    virtio-video-finish-requires
+    finish-requires
     enum-known-found-3
-    virtio-video-drained-requires
+    drained-requires
     same-length
     same-length-2
     returns
