@@ -26,10 +26,12 @@ same-length c = search needs
 
 returns : tie.Need-returns
 returns c b h =
-    let a = c .before .before .before .before .before .before .before .before .before .args in
+    let after-put-plain = c .before .before in let then1 = after-put-plain .before .before in let after-resource-good = then1 .before in
+    let start = after-resource-good .before .before .before .before in
+    let a = start .args in
     failed (a .ticket) invalidParameter h
-    (resource-bad (asked (a .stream) (a .ticket) (now (a .frame)) b) b (queueTypeOf (a .q)) (refused (c .before .before .before .before .before .resource-good .ensures) (c .before .before .before .before .if1 .taken)))
-    (c .before .before .put-plain .ensures)
+    (resource-bad (asked (a .stream) (a .ticket) (now (a .frame)) b) b (queueTypeOf (a .q)) (refused (after-resource-good .resource-good .ensures) (then1 .if1 .taken)))
+    (after-put-plain .put-plain .ensures)
 
 queue-start-requires : tie.Need-queue-start-requires
 queue-start-requires c κs = search needs
@@ -66,12 +68,15 @@ same-length-3 c = search needs
 
 returns-2 : tie.Need-returns-2
 returns-2 c b h =
-    let a = c .before .before .before .before .before .before .before .before .before .before .before .before .before .before .before .args in
+    let after-put-plain2 = c .before .before in let then2 = after-put-plain2 .before .before in let after-number-present = then2 .before in
+    let after-resource = after-number-present .before .before .before in let after-queue-start = after-resource .before in
+    let else1 = after-queue-start .before in let after-resource-good = else1 .before in let start = after-resource-good .before .before .before .before in
+    let a = start .args in
     let t = queueTypeOf (a .q) in
     failed (a .ticket) invalidResource h
-    (creating-again (asked (a .stream) (a .ticket) (now (a .frame)) b) b t (passed (c .before .before .before .before .before .before .before .before .before .before .before .resource-good .ensures) (c .before .before .before .before .before .before .before .before .before .before .if1 .left)) _ (c .before .before .before .before .before .before .before .before .resource .ensures)
-    (sym (c .before .before .before .before .if2 .taken) ∙ c .before .before .before .before .before .number-present .ensures (queueOf t b) (queue-words h t _ (c .before .before .before .before .before .before .before .before .before .queue-start .ensures .1))))
-    (c .before .before .put-plain2 .ensures)
+    (creating-again (asked (a .stream) (a .ticket) (now (a .frame)) b) b t (passed (after-resource-good .resource-good .ensures) (else1 .if1 .left)) _ (after-resource .resource .ensures)
+    (sym (then2 .if2 .taken) ∙ after-number-present .number-present .ensures (queueOf t b) (queue-words h t _ (after-queue-start .queue-start .ensures .1))))
+    (after-put-plain2 .put-plain2 .ensures)
 
 add-find-free : tie.Need-add-find-free
 add-find-free c = search needs
@@ -108,14 +113,18 @@ same-length-5 c = search needs
 
 returns-3 : tie.Need-returns-3
 returns-3 c b h =
-    let a = c .before .before .before .before .before .before .before .before .before .before .before .before .before .before .before .before .before .before .before .before .args in
+    let after-put-plain3 = c .before .before in let after-enum-told = after-put-plain3 .before .before in
+    let after-find-free = after-enum-told .before .before in let else2 = after-find-free .before .before .before in let after-number-present = else2 .before in
+    let after-resource = after-number-present .before .before .before in let after-queue-start = after-resource .before in
+    let else1 = after-queue-start .before in let after-resource-good = else1 .before in let start = after-resource-good .before .before .before .before in
+    let a = start .args in
     let t = queueTypeOf (a .q) in
-    let here = queue-words h t _ (c .before .before .before .before .before .before .before .before .before .before .before .before .before .before .queue-start .ensures .1) in
+    let here = queue-words h t _ (after-queue-start .queue-start .ensures .1) in
     failed (a .ticket) outOfMemory h
-    (creating-full (asked (a .stream) (a .ticket) (now (a .frame)) b) b t (passed (c .before .before .before .before .before .before .before .before .before .before .before .before .before .before .before .before .resource-good .ensures) (c .before .before .before .before .before .before .before .before .before .before .before .before .before .before .before .if1 .left)) _ (c .before .before .before .before .before .before .before .before .before .before .before .before .before .resource .ensures)
-    (sym (c .before .before .before .before .before .before .before .before .before .if2 .left) ∙ c .before .before .before .before .before .before .before .before .before .before .number-present .ensures (queueOf t b) here)
-    (sym (ap foundAt (c .before .before .before .before .enum-told .given .1)) ∙ c .before .before .before .before .before .before .find-free .ensures .1 (queueOf t b) here))
-    (c .before .before .put-plain3 .ensures)
+    (creating-full (asked (a .stream) (a .ticket) (now (a .frame)) b) b t (passed (after-resource-good .resource-good .ensures) (else1 .if1 .left)) _ (after-resource .resource .ensures)
+    (sym (else2 .if2 .left) ∙ after-number-present .number-present .ensures (queueOf t b) here)
+    (sym (ap foundAt (after-enum-told .enum-told .given .1)) ∙ after-find-free .find-free .ensures .1 (queueOf t b) here))
+    (after-put-plain3 .put-plain3 .ensures)
 
 add-set-created : tie.Need-add-set-created
 add-set-created c = search needs
@@ -146,15 +155,20 @@ same-length-7 c = search needs
 
 returns-4 : tie.Need-returns-4
 returns-4 c b h =
-    let a = c .before .before .before .before .before .before .before .before .before .before .before .before .before .before .before .before .before .before .before .before .before .before .before .before .before .args in
+    let after-put-plain4 = c .before .before in let after-set-created = after-put-plain4 .before .before .before .before in
+    let after-found = after-set-created .before .before .before in let after-find-free = after-found .before .before in
+    let else2 = after-find-free .before .before .before in let after-number-present = else2 .before in
+    let after-resource = after-number-present .before .before .before in let after-queue-start = after-resource .before in
+    let else1 = after-queue-start .before in let after-resource-good = else1 .before in let start = after-resource-good .before .before .before .before in
+    let a = start .args in
     let t = queueTypeOf (a .q) in
-    let here = queue-words h t _ (c .before .before .before .before .before .before .before .before .before .before .before .before .before .before .before .before .before .before .before .queue-start .ensures .1) in
+    let here = queue-words h t _ (after-queue-start .queue-start .ensures .1) in
     succeeded (a .ticket) _
-    (creating-new (asked (a .stream) (a .ticket) (now (a .frame)) b) b t (passed (c .before .before .before .before .before .before .before .before .before .before .before .before .before .before .before .before .before .before .before .before .before .resource-good .ensures) (c .before .before .before .before .before .before .before .before .before .before .before .before .before .before .before .before .before .before .before .before .if1 .left)) _ (c .before .before .before .before .before .before .before .before .before .before .before .before .before .before .before .before .before .before .resource .ensures)
-    (sym (c .before .before .before .before .before .before .before .before .before .before .before .before .before .before .if2 .left) ∙ c .before .before .before .before .before .before .before .before .before .before .before .before .before .before .before .number-present .ensures (queueOf t b) here)
-    _ (sym (ap foundAt (c .before .before .before .before .before .before .before .before .before .found .given .1)) ∙ c .before .before .before .before .before .before .before .before .before .before .before .find-free .ensures .1 (queueOf t b) here))
-    (queue-back h t _ (c .before .before .before .before .before .before .before .before .before .before .before .before .before .before .before .before .before .before .before .queue-start .ensures .1) _ _ (c .before .before .before .before .before .before .set-created .ensures (queueOf t b)))
-    (c .before .before .put-plain4 .ensures)
+    (creating-new (asked (a .stream) (a .ticket) (now (a .frame)) b) b t (passed (after-resource-good .resource-good .ensures) (else1 .if1 .left)) _ (after-resource .resource .ensures)
+    (sym (else2 .if2 .left) ∙ after-number-present .number-present .ensures (queueOf t b) here)
+    _ (sym (ap foundAt (after-found .found .given .1)) ∙ after-find-free .find-free .ensures .1 (queueOf t b) here))
+    (queue-back h t _ (after-queue-start .queue-start .ensures .1) _ _ (after-set-created .set-created .ensures (queueOf t b)))
+    (after-put-plain4 .put-plain4 .ensures)
 
 pub create-resource-spec : {M : Type 1} → statement M
 create-resource-spec =

@@ -43,11 +43,14 @@ same-length-2 c = search needs
 
 returns : tie.Need-returns
 returns c f b h =
-    let a = c .before .before .before .before .before .before .before .before .before .before .before .args in
+    let after-put-plain = c .before .before in let then1 = after-put-plain .before .before in let after-any-queued = then1 .before in
+    let after-queue-start = after-any-queued .before .before .before in let start = after-queue-start .before .before .before in
+    let a = start .args in
     let t = queueTypeOf (a .q) in
     failed (a .ticket) invalidOperation h
-    (freeing-busy (asked (a .stream) (a .ticket) f b) b t (sym (c .before .before .before .before .if1 .taken) ∙ c .before .before .before .before .before .any-queued .ensures (queueOf t b) (queue-words h t _ (c .before .before .before .before .before .before .before .before .queue-start .ensures .1))))
-    (c .before .before .put-plain .ensures)
+    (freeing-busy (asked (a .stream) (a .ticket) f b) b t
+    (sym (then1 .if1 .taken) ∙ after-any-queued .any-queued .ensures (queueOf t b) (queue-words h t _ (after-queue-start .queue-start .ensures .1))))
+    (after-put-plain .put-plain .ensures)
 
 add-free-all : tie.Need-add-free-all
 add-free-all c = search needs
@@ -78,13 +81,17 @@ same-length-4 c = search needs
 
 returns-2 : tie.Need-returns-2
 returns-2 c f b h =
-    let a = c .before .before .before .before .before .before .before .before .before .before .before .before .before .before .before .args in
+    let after-put-plain2 = c .before .before in let after-free-all = after-put-plain2 .before .before .before .before in
+    let else1 = after-free-all .before .before in let after-any-queued = else1 .before in let after-queue-start = after-any-queued .before .before .before in
+    let start = after-queue-start .before .before .before in
+    let a = start .args in
     let t = queueTypeOf (a .q) in
     let y = withSlots (freeAll (queueOf t b .slots)) (queueOf t b) in
     succeeded (a .ticket) (some (withQueue t y b))
-    (freeing-idle (asked (a .stream) (a .ticket) f b) b t (sym (c .before .before .before .before .before .before .before .before .if1 .left) ∙ c .before .before .before .before .before .before .before .before .before .any-queued .ensures (queueOf t b) (queue-words h t _ (c .before .before .before .before .before .before .before .before .before .before .before .before .queue-start .ensures .1))))
-    (queue-back h t _ (c .before .before .before .before .before .before .before .before .before .before .before .before .queue-start .ensures .1) _ y (c .before .before .before .before .before .before .free-all .ensures (queueOf t b)))
-    (c .before .before .put-plain2 .ensures)
+    (freeing-idle (asked (a .stream) (a .ticket) f b) b t
+    (sym (else1 .if1 .left) ∙ after-any-queued .any-queued .ensures (queueOf t b) (queue-words h t _ (after-queue-start .queue-start .ensures .1))))
+    (queue-back h t _ (after-queue-start .queue-start .ensures .1) _ y (after-free-all .free-all .ensures (queueOf t b)))
+    (after-put-plain2 .put-plain2 .ensures)
 
 pub destroy-all-spec : {M : Type 1} → statement M
 destroy-all-spec =

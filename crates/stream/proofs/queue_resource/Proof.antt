@@ -28,10 +28,12 @@ same-length c = search needs
 
 returns : tie.Need-returns
 returns c b h =
-    let a = c .before .before .before .before .before .before .before .before .before .args in
+    let after-put-plain = c .before .before in let then1 = after-put-plain .before .before in let after-sizes-good = then1 .before in
+    let start = after-sizes-good .before .before .before .before in
+    let a = start .args in
     failed (a .ticket) invalidParameter h
-    (queue-bad (asked (a .stream) (a .ticket) (now (a .frame)) b) b (queueTypeOf (a .q)) (refused (c .before .before .before .before .before .sizes-good .ensures) (c .before .before .before .before .if1 .taken)))
-    (c .before .before .put-plain .ensures)
+    (queue-bad (asked (a .stream) (a .ticket) (now (a .frame)) b) b (queueTypeOf (a .q)) (refused (after-sizes-good .sizes-good .ensures) (then1 .if1 .taken)))
+    (after-put-plain .put-plain .ensures)
 
 queue-shut-requires : tie.Need-queue-shut-requires
 queue-shut-requires c κs = search needs
@@ -47,11 +49,13 @@ same-length-3 c = search needs
 
 returns-2 : tie.Need-returns-2
 returns-2 c b h =
-    let a = c .before .before .before .before .before .before .before .before .before .before .before .before .args in
+    let after-put-plain2 = c .before .before in let then2 = after-put-plain2 .before .before in let after-queue-shut = then2 .before in
+    let else1 = after-queue-shut .before .before in let after-sizes-good = else1 .before in let start = after-sizes-good .before .before .before .before in
+    let a = start .args in
     failed (a .ticket) invalidOperation h
-    (queueing-shut (asked (a .stream) (a .ticket) (now (a .frame)) b) b (queueTypeOf (a .q)) (passed (c .before .before .before .before .before .before .before .before .sizes-good .ensures) (c .before .before .before .before .before .before .before .if1 .left))
-    (sym (c .before .before .before .before .if2 .taken) ∙ c .before .before .before .before .before .queue-shut .ensures (a .stream) b h))
-    (c .before .before .put-plain2 .ensures)
+    (queueing-shut (asked (a .stream) (a .ticket) (now (a .frame)) b) b (queueTypeOf (a .q)) (passed (after-sizes-good .sizes-good .ensures) (else1 .if1 .left))
+    (sym (then2 .if2 .taken) ∙ after-queue-shut .queue-shut .ensures (a .stream) b h))
+    (after-put-plain2 .put-plain2 .ensures)
 
 queue-start-requires : tie.Need-queue-start-requires
 queue-start-requires c κs = search needs
@@ -94,14 +98,18 @@ same-length-5 c = search needs
 
 returns-3 : tie.Need-returns-3
 returns-3 c b h =
-    let a = c .before .before .before .before .before .before .before .before .before .before .before .before .before .before .before .before .before .before .before .args in
+    let after-put-plain3 = c .before .before in let after-enum-told = after-put-plain3 .before .before in
+    let after-find-resource = after-enum-told .before .before in let after-resource = after-find-resource .before in
+    let after-queue-start = after-resource .before .before .before in let else2 = after-queue-start .before in let after-queue-shut = else2 .before in
+    let else1 = after-queue-shut .before .before in let after-sizes-good = else1 .before in let start = after-sizes-good .before .before .before .before in
+    let a = start .args in
     let t = queueTypeOf (a .q) in
     failed (a .ticket) invalidResource h
-    (queueing-absent (asked (a .stream) (a .ticket) (now (a .frame)) b) b t (passed (c .before .before .before .before .before .before .before .before .before .before .before .before .before .before .before .sizes-good .ensures) (c .before .before .before .before .before .before .before .before .before .before .before .before .before .before .if1 .left))
-    (sym (c .before .before .before .before .before .before .before .before .before .before .before .if2 .left) ∙ c .before .before .before .before .before .before .before .before .before .before .before .before .queue-shut .ensures (a .stream) b h)
-    (sym (ap foundAt (c .before .before .before .before .enum-told .given .1)) ∙ c .before .before .before .before .before .before .find-resource .ensures .1 (queueOf t b) (queue-words h t _ (c .before .before .before .before .before .before .before .before .before .before .queue-start .ensures .1))
-    ∙ ap (λ (n : ℕ). findResource n (queueOf t b .slots)) (c .before .before .before .before .before .before .before .resource .ensures)))
-    (c .before .before .put-plain3 .ensures)
+    (queueing-absent (asked (a .stream) (a .ticket) (now (a .frame)) b) b t (passed (after-sizes-good .sizes-good .ensures) (else1 .if1 .left))
+    (sym (else2 .if2 .left) ∙ after-queue-shut .queue-shut .ensures (a .stream) b h)
+    (sym (ap foundAt (after-enum-told .enum-told .given .1)) ∙ after-find-resource .find-resource .ensures .1 (queueOf t b) (queue-words h t _ (after-queue-start .queue-start .ensures .1))
+    ∙ ap (λ (n : ℕ). findResource n (queueOf t b .slots)) (after-resource .resource .ensures)))
+    (after-put-plain3 .put-plain3 .ensures)
 
 queue-slot-requires : tie.Need-queue-slot-requires
 queue-slot-requires c κs = (search needs, search needs, found-within 16 (c .before .before .before .found .given .1) (c .before .before .before .before .before .find-resource .ensures .0), search needs)
@@ -114,16 +122,20 @@ same-length-7 c = search needs
 
 returns-4 : tie.Need-returns-4
 returns-4 c b h =
-    let a = c .before .before .before .before .before .before .before .before .before .before .before .before .before .before .before .before .before .before .before .before .before .before .before .args in
+    let after-queue-slot = c .before .before .before .before in let after-found = after-queue-slot .before .before .before .before in
+    let after-find-resource = after-found .before .before in let after-resource = after-find-resource .before in
+    let after-queue-start = after-resource .before .before .before in let else2 = after-queue-start .before in let after-queue-shut = else2 .before in
+    let else1 = after-queue-shut .before .before in let after-sizes-good = else1 .before in let start = after-sizes-good .before .before .before .before in
+    let a = start .args in
     let t = queueTypeOf (a .q) in
     let s = queueOf t b .slots in
-    c .before .before .before .before .queue-slot .ensures b h (record {
-      sizes = passed (c .before .before .before .before .before .before .before .before .before .before .before .before .before .before .before .before .before .before .before .sizes-good .ensures) (c .before .before .before .before .before .before .before .before .before .before .before .before .before .before .before .before .before .before .if1 .left);
-      takes = sym (c .before .before .before .before .before .before .before .before .before .before .before .before .before .before .before .before .queue-shut .ensures (a .stream) b h) ∙ c .before .before .before .before .before .before .before .before .before .before .before .before .before .before .before .if2 .left;
+    after-queue-slot .queue-slot .ensures b h (record {
+      sizes = passed (after-sizes-good .sizes-good .ensures) (else1 .if1 .left);
+      takes = sym (after-queue-shut .queue-shut .ensures (a .stream) b h) ∙ else2 .if2 .left;
       found =
-          sym (ap (λ (n : ℕ). findResource n s) (c .before .before .before .before .before .before .before .before .before .before .before .resource .ensures))
-          ∙ sym (c .before .before .before .before .before .before .before .before .before .before .find-resource .ensures .1 (queueOf t b) (queue-words h t _ (c .before .before .before .before .before .before .before .before .before .before .before .before .before .before .queue-start .ensures .1)))
-          ∙ ap foundAt (c .before .before .before .before .before .before .before .before .found .given .1);
+          sym (ap (λ (n : ℕ). findResource n s) (after-resource .resource .ensures))
+          ∙ sym (after-find-resource .find-resource .ensures .1 (queueOf t b) (queue-words h t _ (after-queue-start .queue-start .ensures .1)))
+          ∙ ap foundAt (after-found .found .given .1);
     })
 
 pub queue-resource-spec : {M : Type 1} → statement M

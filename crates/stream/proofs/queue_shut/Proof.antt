@@ -39,9 +39,11 @@ clearing-requires c κs = search needs
 
 returns-2 : tie.Need-returns-2
 returns-2 c n b h =
-    let t = queueTypeOf (c .before .before .before .before .before .before .args .q) in
-    c .clearing .ensures (queueOf t b) (queue-words h t _ (c .before .before .queue-start .ensures .1))
-    ∙ ap (λ (i : Bool). i || queueOf t b .clearing) (sym (c .before .before .before .if1 .left) ∙ c .before .before .before .before .input-draining .ensures n b h)
+    let after-queue-start = c .before .before in let else1 = after-queue-start .before in let after-input-draining = else1 .before in
+    let start = after-input-draining .before .before in
+    let t = queueTypeOf (start .args .q) in
+    c .clearing .ensures (queueOf t b) (queue-words h t _ (after-queue-start .queue-start .ensures .1))
+    ∙ ap (λ (i : Bool). i || queueOf t b .clearing) (sym (else1 .if1 .left) ∙ after-input-draining .input-draining .ensures n b h)
 
 pub queue-shut-spec : {M : Type 1} → statement M
 queue-shut-spec =

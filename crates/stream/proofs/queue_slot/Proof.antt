@@ -43,12 +43,14 @@ same-length-2 c = search needs
 
 returns : tie.Need-returns
 returns c b h p =
-    let a = c .before .before .before .before .before .before .before .before .before .before .before .before .args in
+    let after-put-plain = c .before .before in let then1 = after-put-plain .before .before in let after-slot-queued = then1 .before in
+    let after-queue-start = after-slot-queued .before .before .before in let start = after-queue-start .before .before .before .before in
+    let a = start .args in
     let t = queueTypeOf (a .q) in
     failed (a .ticket) invalidOperation h
     (queueing-again (asked (a .stream) (a .ticket) (now (a .frame)) b) b t (a .k) p (apart h t)
-    (sym (c .before .before .before .before .if1 .taken) ∙ c .before .before .before .before .before .slot-queued .ensures (queueOf t b) (queue-words h t _ (c .before .before .before .before .before .before .before .before .queue-start .ensures .1))))
-    (c .before .before .put-plain .ensures)
+    (sym (then1 .if1 .taken) ∙ after-slot-queued .slot-queued .ensures (queueOf t b) (queue-words h t _ (after-queue-start .queue-start .ensures .1))))
+    (after-put-plain .put-plain .ensures)
 
 timestamp-requires : tie.Need-timestamp-requires
 timestamp-requires c κs = search needs
@@ -76,13 +78,16 @@ same-length-3 c = search needs
 
 returns-2 : tie.Need-returns-2
 returns-2 c b h p =
-    let a = c .before .before .before .before .before .before .before .before .before .before .before .before .before .args in
+    let after-set-queued = c .before .before in let after-timestamp = after-set-queued .before .before in let else1 = after-timestamp .before in
+    let after-slot-queued = else1 .before in let after-queue-start = after-slot-queued .before .before .before in
+    let start = after-queue-start .before .before .before .before in
+    let a = start .args in
     let t = queueTypeOf (a .q) in
     silent _ _
     (queueing-new (asked (a .stream) (a .ticket) (now (a .frame)) b) b t (a .k) p (apart h t)
-    (sym (c .before .before .before .before .before .if1 .left) ∙ c .before .before .before .before .before .before .slot-queued .ensures (queueOf t b) (queue-words h t _ (c .before .before .before .before .before .before .before .before .before .queue-start .ensures .1)))
-    _ (c .before .before .before .before .timestamp .ensures))
-    (queue-back h t _ (c .before .before .before .before .before .before .before .before .before .queue-start .ensures .1) _ _ (c .before .before .set-queued .ensures (queueOf t b)))
+    (sym (else1 .if1 .left) ∙ after-slot-queued .slot-queued .ensures (queueOf t b) (queue-words h t _ (after-queue-start .queue-start .ensures .1)))
+    _ (after-timestamp .timestamp .ensures))
+    (queue-back h t _ (after-queue-start .queue-start .ensures .1) _ _ (after-set-queued .set-queued .ensures (queueOf t b)))
 
 pub queue-slot-spec : {M : Type 1} → statement M
 queue-slot-spec =

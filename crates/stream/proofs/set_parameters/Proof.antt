@@ -35,12 +35,15 @@ same-length-2 c = search needs
 
 returns : tie.Need-returns
 returns c b h =
-    let a = c .before .before .before .before .before .before .before .before .before .before .before .args in
+    let after-put-plain = c .before .before in let then1 = after-put-plain .before .before in let after-set-good = then1 .before in
+    let after-queue-format = after-set-good .before in let start = after-queue-format .before .before .before .before .before in
+    let a = start .args in
     let t = queueTypeOf (a .q) in
     let f = now (a .frame) in
     failed (a .ticket) invalidParameter h
-    (set-bad (asked (a .stream) (a .ticket) f b) b t (refused (c .before .before .before .before .before .set-good .ensures ∙ ap (λ (k : ℕ). goodSet k f) (c .before .before .before .before .before .before .queue-format .ensures (a .stream) b (h .held))) (c .before .before .before .before .if1 .taken)))
-    (c .before .before .put-plain .ensures)
+    (set-bad (asked (a .stream) (a .ticket) f b) b t
+    (refused (after-set-good .set-good .ensures ∙ ap (λ (k : ℕ). goodSet k f) (after-queue-format .queue-format .ensures (a .stream) b (h .held))) (then1 .if1 .taken)))
+    (after-put-plain .put-plain .ensures)
 
 queue-start-requires : tie.Need-queue-start-requires
 queue-start-requires c κs = search needs
@@ -74,14 +77,17 @@ same-length-4 c = search needs
 
 returns-2 : tie.Need-returns-2
 returns-2 c b h =
-    let a = c .before .before .before .before .before .before .before .before .before .before .before .before .before .before .before .before .args in
+    let after-put-plain2 = c .before .before in let then2 = after-put-plain2 .before .before in let after-any-queued = then2 .before in
+    let after-queue-start = after-any-queued .before .before .before in let else1 = after-queue-start .before in let after-set-good = else1 .before in
+    let after-queue-format = after-set-good .before in let start = after-queue-format .before .before .before .before .before in
+    let a = start .args in
     let t = queueTypeOf (a .q) in
     let f = now (a .frame) in
     failed (a .ticket) invalidOperation h
     (setting-busy (asked (a .stream) (a .ticket) f b) b t
-    (passed (c .before .before .before .before .before .before .before .before .before .before .set-good .ensures ∙ ap (λ (k : ℕ). goodSet k f) (c .before .before .before .before .before .before .before .before .before .before .before .queue-format .ensures (a .stream) b (h .held))) (c .before .before .before .before .before .before .before .before .before .if1 .left))
-    (sym (c .before .before .before .before .if2 .taken) ∙ c .before .before .before .before .before .any-queued .ensures (queueOf t b) (queue-words h t _ (c .before .before .before .before .before .before .before .before .queue-start .ensures .1))))
-    (c .before .before .put-plain2 .ensures)
+    (passed (after-set-good .set-good .ensures ∙ ap (λ (k : ℕ). goodSet k f) (after-queue-format .queue-format .ensures (a .stream) b (h .held))) (else1 .if1 .left))
+    (sym (then2 .if2 .taken) ∙ after-any-queued .any-queued .ensures (queueOf t b) (queue-words h t _ (after-queue-start .queue-start .ensures .1))))
+    (after-put-plain2 .put-plain2 .ensures)
 
 add-keep-parameters : tie.Need-add-keep-parameters
 add-keep-parameters c = search needs
@@ -112,16 +118,20 @@ same-length-6 c = search needs
 
 returns-3 : tie.Need-returns-3
 returns-3 c b h =
-    let a = c .before .before .before .before .before .before .before .before .before .before .before .before .before .before .before .before .before .before .before .before .args in
+    let after-put-plain3 = c .before .before in let after-keep-parameters = after-put-plain3 .before .before .before .before in
+    let else2 = after-keep-parameters .before .before in let after-any-queued = else2 .before in
+    let after-queue-start = after-any-queued .before .before .before in let else1 = after-queue-start .before in let after-set-good = else1 .before in
+    let after-queue-format = after-set-good .before in let start = after-queue-format .before .before .before .before .before in
+    let a = start .args in
     let t = queueTypeOf (a .q) in
     let f = now (a .frame) in
     let y = withParameters (frameWidth f) (frameHeight f) (frameRate f) (queueOf t b) in
     succeeded (a .ticket) (some (withQueue t y b))
     (setting-idle (asked (a .stream) (a .ticket) f b) b t
-    (passed (c .before .before .before .before .before .before .before .before .before .before .before .before .before .before .set-good .ensures ∙ ap (λ (k : ℕ). goodSet k f) (c .before .before .before .before .before .before .before .before .before .before .before .before .before .before .before .queue-format .ensures (a .stream) b (h .held))) (c .before .before .before .before .before .before .before .before .before .before .before .before .before .if1 .left))
-    (sym (c .before .before .before .before .before .before .before .before .if2 .left) ∙ c .before .before .before .before .before .before .before .before .before .any-queued .ensures (queueOf t b) (queue-words h t _ (c .before .before .before .before .before .before .before .before .before .before .before .before .queue-start .ensures .1))))
-    (queue-back h t _ (c .before .before .before .before .before .before .before .before .before .before .before .before .queue-start .ensures .1) _ y (c .before .before .before .before .before .before .keep-parameters .ensures (queueOf t b)))
-    (c .before .before .put-plain3 .ensures)
+    (passed (after-set-good .set-good .ensures ∙ ap (λ (k : ℕ). goodSet k f) (after-queue-format .queue-format .ensures (a .stream) b (h .held))) (else1 .if1 .left))
+    (sym (else2 .if2 .left) ∙ after-any-queued .any-queued .ensures (queueOf t b) (queue-words h t _ (after-queue-start .queue-start .ensures .1))))
+    (queue-back h t _ (after-queue-start .queue-start .ensures .1) _ y (after-keep-parameters .keep-parameters .ensures (queueOf t b)))
+    (after-put-plain3 .put-plain3 .ensures)
 
 pub set-parameters-spec : {M : Type 1} → statement M
 set-parameters-spec =
