@@ -7,3 +7,4 @@ pub mod Parts
 pub mod Pieces
 pub mod Same
 pub mod Stores
+pub mod Distinct

@@ -158,3 +158,14 @@ pub all-ext : (p q : ℕ → Bool) (n : ℕ) → ((i : ℕ) → i < n → p i �
 unfolding allBelow
 all-ext p q zero h = refl
 all-ext p q (suc n) h = rw (all-ext p q n (λ i l. h i (omega arith)), h n (omega arith))
+
+-- two tests at each number below the bound
+pub all-both : (p q : ℕ → Bool) (n : ℕ) → allBelow n (λ i. p i && q i) ≡ allBelow n p && allBelow n q
+unfolding allBelow
+all-both p q zero = refl
+all-both p q (suc n) = rw (all-both p q n) (turned (allBelow n p) (allBelow n q) (p n) (q n))
+  where
+    turned : (a b c d : Bool) → (a && b) && (c && d) ≡ (a && c) && (b && d)
+    turned false b c d = refl
+    turned true b false d = and-false b
+    turned true b true d = refl

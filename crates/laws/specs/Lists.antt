@@ -1,8 +1,8 @@
--- Lists picked by a test, tests of any or all of their elements, and counts.
+-- Lists picked by a test, tests of any or all of their elements, counts, and numbers that stand once.
 use Prim.Native.Nat.{ℕ, suc, _+_}
-use mathlib.Core.Bool.{Bool, true, false, cond, _&&_}
+use mathlib.Core.Bool.{Bool, true, false, cond, not, _&&_}
 use mathlib.Core.Option.{Option, none, some}
-use mathlib.Core.List.{List, [], _∷_}
+use mathlib.Core.List.{List, [], _∷_, _++_}
 use lib.Dec.{eqb}
 
 module _ {A : Type 0} where
@@ -58,6 +58,21 @@ same [] [] = true
 same [] (y ∷ ys) = false
 same (x ∷ xs) [] = false
 same (x ∷ xs) (y ∷ ys) = eqb x y && same xs ys
+
+-- the numbers of those elements that have one, in their order
+module _ {A : Type 0} where
+  abbrev pub numbersIn : (A → Option ℕ) → List A → List ℕ
+  numbersIn key [] = []
+  numbersIn key (x ∷ xs) = toList (key x) ++ numbersIn key xs
+
+-- the number stands in the list
+abbrev pub standsIn : ℕ → List ℕ → Bool
+standsIn n l = anyOf (λ m. eqb m n) l
+
+-- no number stands twice
+abbrev pub distinct : List ℕ → Bool
+distinct [] = true
+distinct (n ∷ l) = not (standsIn n l) && distinct l
 
 -- the sum of the numbers
 abbrev pub total : List ℕ → ℕ

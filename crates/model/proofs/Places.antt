@@ -1,16 +1,32 @@
--- The record behind a stream number after the record of that number, or of another, is put back.
+-- Numbers that stand in one place each, and the record behind a stream number after the record of that number, or of another, is put back.
 use Prim.Native.Nat.{ℕ}
-use mathlib.Core.Path.{_≡_, refl, sym, ap, subst}
-use mathlib.Core.Bool.{Bool, true, false}
+use mathlib.Core.Path.{_≡_, refl, sym, ap, _∙_, subst}
+use mathlib.Core.Bool.{Bool, true, false, not}
 use mathlib.Core.Option.{Option, none, some}
 use mathlib.Core.List.{List, [], _∷_}
 use lib.Dec.{eqb}
 use borrow.Author.Tests.{eqb-true}
-use Rattle.laws.specs.Lists.{allOf, isNone}
+use Rattle.laws.specs.Lists.{allOf, isNone, numbersIn, standsIn}
 use Rattle.laws.proofs.Tests.{never, both, and-left, and-right}
 use Rattle.laws.proofs.Lists.{decide, cond-elim, eqb-refl, none-is}
-use Rattle.model.specs.Device.{Stream, Place, vacant, occupied, recordOf, noPlace, place, replace, install, put}
+use Rattle.model.specs.Device.{Stream, Place, vacant, occupied, placeNumber, recordOf, noPlace, place, replace, install, put}
 use Rattle.model.specs.WellFormed.{distinctPlaces}
+
+-- a number is distinct from those of other places where it has no record there
+no-record : (n : ℕ) (ps : List Place) → not (standsIn n (numbersIn placeNumber ps)) ≡ isNone (recordOf n ps)
+no-record n [] = refl
+no-record n (vacant ∷ ps) = no-record n ps
+no-record n (occupied m b ∷ ps) = decide (eqb m n) (λ e. simp e) (λ e. simp e (no-record n ps))
+
+module _ (n : ℕ) (b : Stream) (ps : List Place) where
+  pub alone : isNone (recordOf n ps) ≡ true → distinctPlaces ps ≡ true → distinctPlaces (occupied n b ∷ ps) ≡ true
+  alone h t = both (no-record n ps ∙ h) t
+
+  pub alone-head : distinctPlaces (occupied n b ∷ ps) ≡ true → isNone (recordOf n ps) ≡ true
+  alone-head h = sym (no-record n ps) ∙ and-left (not (standsIn n (numbersIn placeNumber ps))) _ h
+
+  pub alone-tail : distinctPlaces (occupied n b ∷ ps) ≡ true → distinctPlaces ps ≡ true
+  alone-tail h = and-right (not (standsIn n (numbersIn placeNumber ps))) _ h
 
 replace-gone : (n : ℕ) (ps : List Place) → recordOf n (replace n none ps) ≡ none
 replace-gone n [] = refl
@@ -74,10 +90,10 @@ replace-self : (n : ℕ) (ps : List Place) → distinctPlaces ps ≡ true → re
 replace-self n [] h = refl
 replace-self n (vacant ∷ ps) h = ap (λ x. vacant ∷ x) (replace-self n ps h)
 replace-self n (occupied m b ∷ ps) h =
-    let here = and-left (isNone (recordOf m ps)) (distinctPlaces ps) h in
+    let here = alone-head m b ps h in
     decide (eqb m n)
     (λ e. simp (e, replace-absent n (some b) ps (subst (λ (x : ℕ). isNone (recordOf x ps) ≡ true) (eqb-true m n e) here)) (ap (λ x. occupied x b ∷ ps) (sym (eqb-true m n e))))
-    (λ e. simp e (ap (λ x. occupied m b ∷ x) (replace-self n ps (and-right (isNone (recordOf m ps)) (distinctPlaces ps) h))))
+    (λ e. simp e (ap (λ x. occupied m b ∷ x) (replace-self n ps (alone-tail m b ps h))))
 
 pub put-self : (n : ℕ) (ps : List Place) → distinctPlaces ps ≡ true → put n (recordOf n ps) ps ≡ ps
 unfolding put

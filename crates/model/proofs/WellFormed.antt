@@ -16,7 +16,7 @@ use Rattle.model.specs.Numbers.{streamPlaces, queueSlots, firstCoded, la
 use Rattle.model.specs.Device.{QueueType, input, output, State, created, queued, dequeued, Slot, free, resource, Queue, Stream, Place, vacant, occupied, Device, newQueue, newStream, fresh, queueOf, withQueue, withDrain, withSlots, present, addResource, setState, stopped, stopAll, freeAll, recordOf, place, replace, install, put}
 use Rattle.model.specs.Frames.{QueueCommand, createResource, queueResource, destroyAll, clear, getParameters, setParameters, LiveCommand, word, streamId, codedFormat, resourceId, timestampSent}
 use Rattle.model.specs.Replies.{Reply, Request}
-use Rattle.model.specs.Commands.{Surroundings, onCreate, onDestroy, onDrain, onCreateResource, onQueue, onDestroyAll, onClear, onGet, onSet, onQueueOf, onLive, onCommand, drainLeft, cleared, badExtent}
+use Rattle.model.specs.Commands.{Surroundings, onCreate, onDestroy, onDrain, onCreateResource, onQueue, onDestroyAll, onClear, onGet, onSet, onQueueOf, onLive, onCommand, drainLeft, cleared, goodExtent, badExtent}
 use Rattle.model.specs.Steps.{Act, command, finish, drained, streamOf, serve, Outcome, around}
 use Rattle.model.specs.WellFormed.{u8, u32, u64, goodState, goodSlot, distinctSlots, goodSlots, goodQueue, goodDrain, goodStream, goodPlace, distinctPlaces, goodPlaces, wellFormed, goodAct}
 use Rattle.model.specs.Promises.{StaysWellFormed}
@@ -24,7 +24,7 @@ use Rattle.field.proofs.Laws.{field-below}
 use Rattle.model.proofs.Slots.{Distinct, distinct-set, distinct-stop, distinct-free, distinct-add}
 use Rattle.model.proofs.Walk.{walk}
 use Rattle.model.proofs.Cases.{live-cases, command-cases, finish-cases, drained-cases, step-cases}
-use Rattle.model.proofs.Places.{replace-other, replace-absent, install-other, all-record, all-put}
+use Rattle.model.proofs.Places.{alone, alone-head, alone-tail, replace-other, replace-absent, install-other, all-record, all-put}
 
 -- Numbers in frames
 
@@ -144,19 +144,19 @@ GoodSelf (some b) = GoodStream b
 
 queue-is : (q : Queue) → goodQueue q ≡ true → GoodQueue q
 queue-is q h =
-    let w = not (badExtent (q .width)) in
-    let v = not (badExtent (q .height)) in
+    let w = goodExtent (q .width) in
+    let v = goodExtent (q .height) in
     let r₁ = and-right (goodSlots (q .slots)) _ h in
     let r₂ = and-right w _ r₁ in
     record {
       slots = slots-are (q .slots) (and-left (goodSlots (q .slots)) _ h);
-      width = not-true (badExtent (q .width)) (and-left w _ r₁);
-      height = not-true (badExtent (q .height)) (and-left v _ r₂);
+      width = ap not (and-left w _ r₁);
+      height = ap not (and-left v _ r₂);
       rate = and-right v _ r₂;
     }
 
 is-queue : (q : Queue) → GoodQueue q → goodQueue q ≡ true
-is-queue q g = both (are-slots (q .slots) (g .slots)) (both (ap not (g .width)) (both (ap not (g .height)) (g .rate)))
+is-queue q g = both (are-slots (q .slots) (g .slots)) (both (not-false (goodExtent (q .width)) (g .width)) (both (not-false (goodExtent (q .height)) (g .height)) (g .rate)))
 
 pub stream-is : (b : Stream) → goodStream b ≡ true → GoodStream b
 stream-is b h =
@@ -306,24 +306,23 @@ apart-replace : (n : ℕ) (r : Option Stream) (ps : List Place) → distinctPlac
 apart-replace n r [] h = refl
 apart-replace n r (vacant ∷ ps) h = apart-replace n r ps h
 apart-replace n r (occupied m b ∷ ps) h =
-    let here = and-left (isNone (recordOf m ps)) _ h in
-    let rest = and-right (isNone (recordOf m ps)) _ h in
+    let here = alone-head m b ps h in
+    let rest = alone-tail m b ps h in
     decide (eqb m n)
     (λ e. simp e (taken r (subst (λ (x : ℕ). isNone (recordOf x ps) ≡ true) (eqb-true m n e) here) rest))
-    (λ e. simp e (both (ap isNone (replace-other m n r ps (eqb-sym m n e)) ∙ here) (apart-replace n r ps rest)))
+    (λ e. simp e (alone m b (replace n r ps) (ap isNone (replace-other m n r ps (eqb-sym m n e)) ∙ here) (apart-replace n r ps rest)))
   where
     taken : (x : Option Stream) → isNone (recordOf n ps) ≡ true → distinctPlaces ps ≡ true → distinctPlaces (place n x ∷ replace n r ps) ≡ true
     taken none q z = simp (replace-absent n r ps q) z
-    taken (some c) q z = simp (replace-absent n r ps q) (both q z)
+    taken (some c) q z = simp (replace-absent n r ps q) (alone n c ps q z)
 
 apart-install : (n : ℕ) (r : Option Stream) (ps : List Place) → isNone (recordOf n ps) ≡ true → distinctPlaces ps ≡ true → distinctPlaces (install n r ps) ≡ true
 apart-install n r [] q h = refl
 apart-install n none (vacant ∷ ps) q h = h
-apart-install n (some c) (vacant ∷ ps) q h = both q h
+apart-install n (some c) (vacant ∷ ps) q h = alone n c ps q h
 apart-install n r (occupied m b ∷ ps) q h =
     decide (eqb m n) (λ e. never (sym (simp e at q)))
-    (λ e. both (ap isNone (install-other m n r ps (eqb-sym m n e)) ∙ and-left (isNone (recordOf m ps)) _ h)
-    (apart-install n r ps (simp e at q) (and-right (isNone (recordOf m ps)) _ h)))
+    (λ e. alone m b (install n r ps) (ap isNone (install-other m n r ps (eqb-sym m n e)) ∙ alone-head m b ps h) (apart-install n r ps (simp e at q) (alone-tail m b ps h)))
 
 apart-put : (n : ℕ) (r : Option Stream) (ps : List Place) → distinctPlaces ps ≡ true → distinctPlaces (put n r ps) ≡ true
 unfolding put

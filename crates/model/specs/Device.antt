@@ -6,7 +6,7 @@ use mathlib.Core.Option.{Option, none, some}
 use mathlib.Core.List.{List, [], _∷_}
 use lib.ListN.{replicate}
 use lib.Dec.{eqb}
-use Rattle.laws.specs.Lists.{isNone}
+use Rattle.laws.specs.Lists.{isNone, numbersIn, standsIn}
 use Rattle.laws.specs.Ascending.{ascending}
 use Rattle.model.specs.Numbers.{streamPlaces, queueSlots}
 
@@ -116,11 +116,14 @@ bufferOf r (i ∷ l) = cond (eqb (i .resource) r) (some i) (bufferOf r l)
 
 -- Slots
 
+-- the resource number in a slot
+abbrev pub slotNumber : Slot → Option ℕ
+slotNumber free = none
+slotNumber (resource r p) = some r
+
 -- some slot holds the resource number
 abbrev pub present : ℕ → List Slot → Bool
-present r [] = false
-present r (free ∷ s) = present r s
-present r (resource m p ∷ s) = cond (eqb m r) true (present r s)
+present r s = standsIn r (numbersIn slotNumber s)
 
 -- every slot holds something
 abbrev pub noSlot : List Slot → Bool
@@ -158,6 +161,11 @@ freeAll [] = []
 freeAll (p ∷ s) = free ∷ freeAll s
 
 -- Places
+
+-- the stream number in a place
+abbrev pub placeNumber : Place → Option ℕ
+placeNumber vacant = none
+placeNumber (occupied n b) = some n
 
 -- the record of a stream number, if it is live
 abbrev pub recordOf : ℕ → List Place → Option Stream

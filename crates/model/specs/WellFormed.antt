@@ -1,15 +1,15 @@
 -- Which devices a valid table stands for, and the types of the host's numbers.
 use Prim.Native.Nat.{ℕ, _^_}
-use mathlib.Core.Bool.{Bool, true, not, _&&_}
+use mathlib.Core.Bool.{Bool, true, _&&_}
 use mathlib.Core.Option.{Option, none, some}
-use mathlib.Core.List.{List, [], _∷_}
+use mathlib.Core.List.{List}
 use lib.ListN.{length}
 use lib.Dec.{eqb, ltb}
 use Rattle.laws.specs.Tests.{within}
-use Rattle.laws.specs.Lists.{allOf, isNone}
+use Rattle.laws.specs.Lists.{allOf, numbersIn, distinct}
 use Rattle.model.specs.Numbers.{streamPlaces, queueSlots, firstCoded, lastCoded}
-use Rattle.model.specs.Device.{State, created, queued, dequeued, Slot, free, resource, Queue, Stream, Place, vacant, occupied, Device, present, recordOf}
-use Rattle.model.specs.Commands.{badExtent}
+use Rattle.model.specs.Device.{State, created, queued, dequeued, Slot, free, resource, Queue, Stream, Place, vacant, occupied, Device, slotNumber, placeNumber}
+use Rattle.model.specs.Commands.{goodExtent}
 use Rattle.model.specs.Steps.{Act, command, finish, drained, Step}
 
 -- numbers of 8, 32 and 64 bits
@@ -35,9 +35,7 @@ goodSlot (resource r p) = u32 r && goodState p
 
 -- no resource number twice in one queue
 abbrev pub distinctSlots : List Slot → Bool
-distinctSlots [] = true
-distinctSlots (free ∷ s) = distinctSlots s
-distinctSlots (resource r p ∷ s) = not (present r s) && distinctSlots s
+distinctSlots s = distinct (numbersIn slotNumber s)
 
 -- sixteen good slots, no number twice
 abbrev pub goodSlots : List Slot → Bool
@@ -45,7 +43,7 @@ goodSlots s = eqb (length s) queueSlots && (allOf goodSlot s && distinctSlots s)
 
 -- parameters such as a creation or a set leaves; the clear-in-progress mark may stand or not
 abbrev pub goodQueue : Queue → Bool
-goodQueue q = goodSlots (q .slots) && (not (badExtent (q .width)) && (not (badExtent (q .height)) && u32 (q .rate)))
+goodQueue q = goodSlots (q .slots) && (goodExtent (q .width) && (goodExtent (q .height) && u32 (q .rate)))
 
 -- any ticket
 abbrev pub goodDrain : Option ℕ → Bool
@@ -63,9 +61,7 @@ goodPlace (occupied n b) = u32 n && goodStream b
 
 -- no stream number twice
 abbrev pub distinctPlaces : List Place → Bool
-distinctPlaces [] = true
-distinctPlaces (vacant ∷ ps) = distinctPlaces ps
-distinctPlaces (occupied n b ∷ ps) = isNone (recordOf n ps) && distinctPlaces ps
+distinctPlaces ps = distinct (numbersIn placeNumber ps)
 
 -- eight good places, no number twice; places may be vacant anywhere
 abbrev pub goodPlaces : List Place → Bool

@@ -14,7 +14,7 @@ use Rattle.laws.proofs.Lists.{decide}
 use Rattle.laws.proofs.Positions.{later-some, later-none}
 use Rattle.model.specs.Device.{Stream, Place, vacant, occupied, recordOf, noPlace, place, replace, install, put}
 use Rattle.model.specs.WellFormed.{distinctPlaces}
-use Rattle.model.proofs.Places.{replace-absent}
+use Rattle.model.proofs.Places.{alone-head, alone-tail, replace-absent}
 use Rattle.table.specs.Search.{placeAt, isStream, findStream, findVacant}
 
 some-is : {k : ℕ} → _≡_ {A = Option ℕ} (some 0) (some k) → k ≡ 0
@@ -39,7 +39,7 @@ live-later n k (occupied m b) ps h a =
       inside = omega (arith, a .inside);
       at = a .at;
       known = simp h (a .known);
-      replaced = λ x r. simp h (ap (λ (l : List Place). occupied m b ∷ l) (a .replaced (and-right (isNone (recordOf m ps)) _ x) r));
+      replaced = λ x r. simp h (ap (λ (l : List Place). occupied m b ∷ l) (a .replaced (alone-tail m b ps x) r));
     }
 
 live-first : (n m : ℕ) (b : Stream) (ps : List Place) → eqb m n ≡ true → LiveAt n 0 (occupied m b ∷ ps)
@@ -50,7 +50,7 @@ live-first n m b ps h =
       inside = omega arith;
       at = ap (λ (x : ℕ). occupied x b) is;
       known = simp h;
-      replaced = λ x r. simp h (ap (λ (l : List Place). place n r ∷ l) (replace-absent n r ps (subst (λ (y : ℕ). isNone (recordOf y ps) ≡ true) is (and-left (isNone (recordOf m ps)) _ x))));
+      replaced = λ x r. simp h (ap (λ (l : List Place). place n r ∷ l) (replace-absent n r ps (subst (λ (y : ℕ). isNone (recordOf y ps) ≡ true) is (alone-head m b ps x))));
     }
 
 pub stream-found : (n : ℕ) (ps : List Place) (k : ℕ) → findStream n ps ≡ some k → LiveAt n k ps

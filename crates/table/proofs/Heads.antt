@@ -14,7 +14,7 @@ use Rattle.model.specs.Device.{Stream, Place, vacant, occupied, newQueue, newSt
 use Rattle.words.specs.Words.{queueWords}
 use Rattle.words.proofs.Records.{queue-length}
 use Rattle.table.specs.Blocks.{drainWords, headWords, placeWords}
-use Rattle.table.specs.Search.{isVacant, isStream, streamIn}
+use Rattle.table.specs.Search.{isVacant, isStream}
 
 -- Live or vacant, and the number
 
@@ -26,10 +26,9 @@ pub live-word : (l : List ℕ) (n : ℕ) (b : Stream) → l ≡ placeWords (occu
 unfolding placeWords headWords
 live-word l n b e = ap (λ (x : List ℕ). getD x 0 0) e
 
-pub number-word : (l : List ℕ) (p : Place) → l ≡ placeWords p → getD l 1 0 ≡ streamIn p
+number-word : (l : List ℕ) (n : ℕ) (b : Stream) → l ≡ placeWords (occupied n b) → getD l 1 0 ≡ n
 unfolding placeWords headWords
-number-word l vacant e = ap (λ (x : List ℕ). getD x 1 0) e ∙ zero-at 512 1 (omega arith)
-number-word l (occupied n b) e = ap (λ (x : List ℕ). getD x 1 0) e
+number-word l n b e = ap (λ (x : List ℕ). getD x 1 0) e
 
 pub vacant-test : (l : List ℕ) (p : Place) → l ≡ placeWords p → eqb (getD l 0 0) 0 ≡ isVacant p
 vacant-test l vacant e = rw (vacant-word e)
@@ -42,7 +41,7 @@ stream-none n l (occupied m b) e z = absurd (eqb-false 1 0 refl (sym (live-word 
 
 pub stream-test : (n : ℕ) (l : List ℕ) (p : Place) → l ≡ placeWords p → (getD l 0 0 ≡ 0 → ⊥) → eqb (getD l 1 0) n ≡ isStream n p
 stream-test n l vacant e z = absurd (z (vacant-word e))
-stream-test n l (occupied m b) e z = ap (λ (x : ℕ). eqb x n) (number-word l (occupied m b) e)
+stream-test n l (occupied m b) e z = ap (λ (x : ℕ). eqb x n) (number-word l m b e)
 
 -- Coded format and drain
 

@@ -10,7 +10,7 @@ use native.Mathlib.Omega.{arith}
 use lib.ListN.{length, replicate, take}
 use lib.Seq.{take-take}
 use lib.Dec.{eqb}
-use borrow.Author.Tests.{eqb-true, ltb-true, lt-ltb, not-true, not-false}
+use borrow.Author.Tests.{eqb-true, ltb-true, lt-ltb}
 use Rattle.laws.specs.Lists.{allOf, same}
 use Rattle.laws.specs.Tests.{within}
 use Rattle.laws.specs.Parts.{zeros, pieces}
@@ -20,7 +20,7 @@ use Rattle.laws.proofs.Parts.{zeros-append}
 use Rattle.laws.proofs.Same.{same-refl, same-true}
 use Rattle.model.specs.Numbers.{tableWords, firstCoded, lastCoded}
 use Rattle.model.specs.Device.{created, queued, dequeued, Slot, free, resource, Queue, Stream, Place, vacant, occupied, Device, fresh}
-use Rattle.model.specs.Commands.{badExtent}
+use Rattle.model.specs.Commands.{goodExtent}
 use Rattle.model.specs.WellFormed.{u32, u64, goodSlot, goodSlots, goodQueue, goodDrain, goodPlace, wellFormed}
 use Rattle.model.specs.Tables.{valid}
 use Rattle.model.proofs.WellFormed.{well-fresh, well-places}
@@ -129,22 +129,19 @@ narrow-flag : (b : Bool) → u32 (flagWord b) ≡ true
 narrow-flag true = u32-of 1 (omega arith)
 narrow-flag false = u32-of 0 (omega arith)
 
-narrow-extent : (v : ℕ) → not (badExtent v) ≡ true → u32 v ≡ true
-narrow-extent v h =
-    let good : within v 16 4096 && eqb (v % 2) 0 ≡ true = not-false _ (not-true (badExtent v) h) in
-    let high = within-bounds v 16 4096 (and-left (within v 16 4096) _ good) .1 in
-    u32-of v (omega arith)
+narrow-extent : (v : ℕ) → goodExtent v ≡ true → u32 v ≡ true
+narrow-extent v h = let high = within-bounds v 16 4096 (and-left (within v 16 4096) _ h) .1 in u32-of v (omega arith)
 
 narrow-queue : (q : Queue) → goodQueue q ≡ true → allOf u32 (queueWords q) ≡ true
 unfolding queueWords
 narrow-queue q h =
     let slots = and-left (goodSlots (q .slots)) _ h in
     let params = and-right (goodSlots (q .slots)) _ h in
-    let more = and-right (not (badExtent (q .width))) _ params in
+    let more = and-right (goodExtent (q .width)) _ params in
     both (narrow-flag (q .clearing))
-    (both (narrow-extent (q .width) (and-left (not (badExtent (q .width))) _ params))
-    (both (narrow-extent (q .height) (and-left (not (badExtent (q .height))) _ more))
-    (both (and-right (not (badExtent (q .height))) _ more)
+    (both (narrow-extent (q .width) (and-left (goodExtent (q .width)) _ params))
+    (both (narrow-extent (q .height) (and-left (goodExtent (q .height)) _ more))
+    (both (and-right (goodExtent (q .height)) _ more)
     (narrow-pieces slotWords goodSlot narrow-slot (q .slots) (and-left (allOf goodSlot (q .slots)) _ (and-right (eqb (length (q .slots)) 16) _ slots))))))
 
 narrow-drain : (d : Option ℕ) → goodDrain d ≡ true → allOf u32 (drainWords d ++ zeros 3) ≡ true

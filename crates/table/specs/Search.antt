@@ -23,11 +23,6 @@ abbrev pub isStream : ℕ → Place → Bool
 isStream n vacant = false
 isStream n (occupied m b) = eqb m n
 
--- the stream number in a place; 0 where there is none
-abbrev pub streamIn : Place → ℕ
-streamIn vacant = 0
-streamIn (occupied m b) = m
-
 -- the place of a stream number, and the lowest vacant place
 abbrev pub findStream : ℕ → List Place → Option ℕ
 findStream n ps = position (isStream n) ps

@@ -25,8 +25,6 @@ pub use block::queue_start;
 pub use block::set_drain;
 pub use search::find_stream;
 pub use search::find_vacant;
-pub use search::is_vacant;
-pub use search::stream_number;
 
 // The stream places, the words of one, and those of all.
 pub const PLACES: usize = 8;

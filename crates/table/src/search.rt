@@ -7,7 +7,7 @@ ghost use Rattle.laws.specs.Lists.{allOf};
 ghost use Rattle.model.specs.Device.{Place};
 ghost use Rattle.words.specs.Found.{foundAt, Within};
 ghost use Rattle.table.specs.Blocks.{placeWords, blocks, blocksSize};
-ghost use Rattle.table.specs.Search.{isVacant, isStream, streamIn, findStream, findVacant, sized};
+ghost use Rattle.table.specs.Search.{isVacant, isStream, findStream, findVacant, sized};
 use crate::PLACE_WORDS;
 use crate::PLACES;
 use crate::block::LIVE;
@@ -26,19 +26,11 @@ pub fn holds_stream(b: &[u32], number: u32) -> bool
 }
 
 // Whether a block is vacant.
-pub fn is_vacant(b: &[u32]) -> bool
+fn is_vacant(b: &[u32]) -> bool
     requires { ⌜ length (now b) ≡ 512 ⌝ }
     ensures { λ r. ⌜ ((p : Place) → now (b .entry) ≡ placeWords p → r ≡ isVacant p) ⌝ }
 {
     b[LIVE] == 0
-}
-
-// The number of a block's stream; 0 where it is vacant.
-pub fn stream_number(b: &[u32]) -> u32
-    requires { ⌜ length (now b) ≡ 512 ⌝ }
-    ensures { λ r. ⌜ ((p : Place) → now (b .entry) ≡ placeWords p → r ≡ streamIn p) ⌝ }
-{
-    b[NUMBER]
 }
 
 // The place of the stream with that number.

@@ -1,6 +1,6 @@
 -- The rules of a place on words of 32 bits: what is left to test once each word is one.
 use mathlib.Core.Path.{_≡_, refl, sym, _∙_}
-use mathlib.Core.Bool.{Bool, true, false, not, _&&_}
+use mathlib.Core.Bool.{Bool, true, false, _&&_}
 use mathlib.Core.Option.{Option, none, some}
 use mathlib.Core.List.{List, [], _∷_, _++_}
 use Prim.Native.Nat.{ℕ, suc, _/_, _%_, _^_, _<_}
@@ -14,7 +14,7 @@ use Rattle.laws.proofs.Tests.{both, and-left, and-right}
 use Rattle.laws.proofs.Lists.{all-append}
 use Rattle.model.specs.Numbers.{firstCoded, lastCoded}
 use Rattle.model.specs.Device.{input, output, created, queued, dequeued, Slot, free, resource, Queue, Stream, occupied}
-use Rattle.model.specs.Commands.{badExtent}
+use Rattle.model.specs.Commands.{goodExtent}
 use Rattle.model.specs.WellFormed.{u32, u64, goodSlot, distinctSlots, goodQueue, goodDrain, goodPlace}
 use Rattle.words.specs.Words.{slotWords, flagWord, queueWords}
 use Rattle.table.specs.Blocks.{drainWords, headWords, placeWords}
@@ -61,7 +61,7 @@ wide-slots (s ∷ l) h = both (wide-slot s (front (slotWords s) (pieces slotWord
 
 -- the rules of a queue that its words can break
 abbrev pub queueRules : Queue → Bool
-queueRules q = not (badExtent (q .width)) && (not (badExtent (q .height)) && distinctSlots (q .slots))
+queueRules q = goodExtent (q .width) && (goodExtent (q .height) && distinctSlots (q .slots))
 
 pub wide-queue : (q : Queue) → length (q .slots) ≡ 16 → allOf u32 (queueWords q) ≡ true → goodQueue q ≡ queueRules q
 unfolding queueWords
@@ -70,7 +70,7 @@ wide-queue q sixteen h =
     let from-height = and-right (u32 (q .width)) _ from-width in
     let from-rate = and-right (u32 (q .height)) _ from-height in
     rw (eq-eqb (length (q .slots)) 16 sixteen, wide-slots (q .slots) (and-right (u32 (q .rate)) _ from-rate), and-left (u32 (q .rate)) _ from-rate)
-    (turned (distinctSlots (q .slots)) (not (badExtent (q .width))) (not (badExtent (q .height))))
+    (turned (distinctSlots (q .slots)) (goodExtent (q .width)) (goodExtent (q .height)))
   where
     turned : (d w v : Bool) → (true && (true && d)) && (w && (v && true)) ≡ w && (v && d)
     turned true true true = refl

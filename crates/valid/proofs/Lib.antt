@@ -1,5 +1,4 @@
-pub mod Repeated
+pub mod Elements
 pub mod QueueStands
-pub mod Distinct
 pub mod PlaceStands
 pub mod Good

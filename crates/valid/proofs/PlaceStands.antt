@@ -1,31 +1,31 @@
 -- The test whether words are those of the device that they stand for, block by block and part by part.
-use mathlib.Core.Path.{_≡_, refl, sym, ap, ap₂, _∙_}
-use mathlib.Core.Bool.{Bool, true, false, _&&_, and-comm}
+use mathlib.Core.Path.{_≡_, refl, sym, ap, _∙_}
+use mathlib.Core.Bool.{Bool, true, false, _&&_, and-true, and-false}
 use mathlib.Core.List.{List, [], _∷_, _++_}
 use Prim.Native.Nat.{ℕ, zero, suc, _*_, _<_}
 use native.Mathlib.Omega.{arith}
 use lib.ListN.{length, getD, take, drop, length-drop}
-use lib.Seq.{drop-drop, take-all, getD-take}
+use lib.Seq.{drop-drop, take-all, length-take-le, getD-take}
 use lib.Dec.{eqb, lit<}
 use borrow.Author.Tests.{eq-eqb, ne-eqb}
-use Rattle.laws.specs.Lists.{allOf, same}
+use Rattle.laws.specs.Lists.{allOf, same, distinct}
 use Rattle.laws.specs.Tests.{allBelow}
 use Rattle.laws.specs.Parts.{part, zeros, pieces, readPieces}
-use Rattle.laws.proofs.Tests.{both}
-use Rattle.laws.proofs.Lists.{cond-elim, eqb-refl}
-use Rattle.laws.proofs.Same.{same-cut}
-use Rattle.laws.proofs.Pieces.{same-pieces, read-length, all-places}
-use Rattle.model.specs.Device.{QueueType, input, output, Stream, Place, vacant, queueOf}
-use Rattle.model.specs.WellFormed.{goodPlace, distinctPlaces, wellFormed}
+use Rattle.laws.proofs.Tests.{both, all-ext, all-both}
+use Rattle.laws.proofs.Lists.{cond-elim, eqb-refl, no-element}
+use Rattle.laws.proofs.Same.{same-eq, same-true, same-cut}
+use Rattle.laws.proofs.Pieces.{same-pieces, read-length, read-at, all-places}
+use Rattle.model.specs.Numbers.{tableWords}
+use Rattle.model.specs.Device.{QueueType, input, output, Stream, Place, vacant, Device, queueOf}
+use Rattle.model.specs.WellFormed.{goodPlace, distinctPlaces, goodPlaces, wellFormed}
 use Rattle.model.specs.Tables.{valid}
 use Rattle.words.specs.Words.{queueWords, decodeQueue}
 use Rattle.words.proofs.Records.{queue-length, decoded-slots}
-use Rattle.table.specs.Blocks.{drainIn, headWords, placeWords, encode, decodePlace, decode}
-use Rattle.table.specs.Blocks.{layout}
+use Rattle.table.specs.Blocks.{drainIn, headWords, placeWords, blocks, blocksSize, behind, encode, decodePlace, placesIn, decode, layout}
 use Rattle.table.specs.Search.{placeAt, sized}
-use Rattle.valid.specs.Rules.{headStands, placeStands, foundAgain}
-use Rattle.table.proofs.Records.{head-length, queue-sized, place-length}
-use Rattle.valid.proofs.Distinct.{distinct-test}
+use Rattle.valid.specs.Rules.{headStands, placeStands, placeValid, numbersFrom, blocksValid}
+use Rattle.table.proofs.Records.{head-length, queue-sized, place-length, blocks-length}
+use Rattle.valid.proofs.Elements.{places-numbers}
 
 -- What is decoded has its sizes
 
@@ -41,7 +41,7 @@ sixteen : (w : List ℕ) (q : QueueType) → length (queueOf q (streamOf w) .slo
 sixteen w input = decoded-slots (part 8 84 w)
 sixteen w output = decoded-slots (part 92 84 w)
 
-decoded-sized : (w : List ℕ) → sized (decodePlace w) ≡ true
+pub decoded-sized : (w : List ℕ) → sized (decodePlace w) ≡ true
 unfolding decodePlace
 decoded-sized w = cond-elim (λ (p : Place). sized p ≡ true) (eqb (getD w 0 0) 1) (λ _. queue-sized (getD w 1 0) (streamOf w) (sixteen w)) (λ _. refl)
 
@@ -50,24 +50,24 @@ unfolding readPieces
 read-all g p k h zero w = refl
 read-all g p k h (suc n) w = both (h (take k w)) (read-all g p k h n (drop k w))
 
-pub decode-sized : (w : List ℕ) → allOf sized (decode w) ≡ true
-unfolding decode
+decode-sized : (w : List ℕ) → allOf sized (placesIn w) ≡ true
+unfolding placesIn
 decode-sized w = read-all decodePlace sized 512 decoded-sized 8 w
 
-pub decode-eight : (w : List ℕ) → length (decode w) ≡ 8
-unfolding decode
+decode-eight : (w : List ℕ) → length (placesIn w) ≡ 8
+unfolding placesIn
 decode-eight w = read-length decodePlace 512 8 w
 
--- The table, by its blocks
+-- The blocks, one by one
 
 compose : {A : Type 0} (f : A → List ℕ) (g : List ℕ → A) (k n : ℕ) (w : List ℕ) → pieces f (readPieces g k n w) ≡ pieces (λ x. f (g x)) (readPieces (λ x. x) k n w)
 unfolding pieces readPieces
 compose f g k zero w = refl
 compose f g k (suc n) w = ap (λ (r : List ℕ). f (g (take k w)) ++ r) (compose f g k n (drop k w))
 
-pub table-test : (t : List ℕ) → length t ≡ 4096 → same t (encode (decode t)) ≡ allBelow 8 (λ k. placeStands (part (512 * k) 512 t))
-unfolding encode decode
-table-test t long =
+stands-test : (t : List ℕ) → length t ≡ blocksSize → same t (blocks (placesIn t)) ≡ allBelow 8 (λ k. placeStands (part (512 * k) 512 t))
+unfolding blocks placesIn
+stands-test t long =
     ap (same t) (compose placeWords decodePlace 512 8 t)
     ∙ same-pieces (λ w. placeWords (decodePlace w)) 512 (λ w. place-length (decodePlace w) (decoded-sized w)) (λ w. w) 8 t long
 
@@ -145,14 +145,49 @@ module _ (h : List ℕ) (long : length h ≡ 8) where
       eight (λ x. getD x 0 0 ≡ 1 → (getD x 3 0 ≡ 0 → ⊥) → (getD x 3 0 ≡ 1 → ⊥) → false ≡ headStands x)
       (λ a n f o t x y z one e d. rw (one, ne-eqb o 1 d, ne-eqb o 0 e, eqb-refl n, eqb-refl f)) h long
 
--- The whole test of 4,096 words: they are those of a device, and its places keep the rules
+-- The whole test of eight blocks: each is that of a place that keeps the rules, and no number stands twice
 
-pub valid-test : (t : List ℕ) → length t ≡ 4096
-    → valid layout t ≡ same t (encode (decode t)) && (allBelow 8 (λ k. goodPlace (placeAt k (decode t))) && allBelow 8 (λ k. foundAgain k (decode t)))
-unfolding valid wellFormed
+turned : (stands good apart once : Bool) → (stands ≡ true → apart ≡ once) → (good && apart) && stands ≡ (stands && good) && once
+turned false g a o h = and-false (g && a)
+turned true true a o h = and-true a ∙ h refl
+turned true false a o h = refl
+
+-- each place is read from its block
+good-test : (t : List ℕ) → allOf goodPlace (placesIn t) ≡ allBelow 8 (λ k. goodPlace (decodePlace (part (512 * k) 512 t)))
+unfolding placesIn
+good-test t =
+    all-places goodPlace vacant (placesIn t)
+    ∙ ap (λ (n : ℕ). allBelow n (λ k. goodPlace (placeAt k (placesIn t)))) (decode-eight t)
+    ∙ all-ext _ _ 8 (λ k h. ap goodPlace (read-at decodePlace 512 8 t k vacant h))
+
+pub blocks-test : (t : List ℕ) → length t ≡ blocksSize → goodPlaces (placesIn t) && same t (blocks (placesIn t)) ≡ blocksValid t
+unfolding placeValid blocks blocksValid
+blocks-test t long =
+    let stands : ℕ → Bool = λ k. placeStands (part (512 * k) 512 t) in
+    let good : ℕ → Bool = λ k. goodPlace (decodePlace (part (512 * k) 512 t)) in
+    rw (eq-eqb (length (placesIn t)) 8 (decode-eight t), stands-test t long, good-test t)
+    (turned (allBelow 8 stands) (allBelow 8 good) (distinctPlaces (placesIn t)) (distinct (numbersFrom 0 512 8 t))
+    (λ e. ap distinct (sym (places-numbers t (placesIn t) (decode-sized t) (decode-eight t) (same-true _ _ (stands-test t long ∙ e)))))
+    ∙ ap (λ (b : Bool). b && distinct (numbersFrom 0 512 8 t)) (sym (all-both stands good 8)))
+
+-- The used words: the blocks, and behind them no word
+
+blocks-length-of : (t : List ℕ) → length (blocks (placesIn t)) ≡ blocksSize
+blocks-length-of t = omega (arith, blocks-length (placesIn t) (decode-sized t), decode-eight t)
+
+behind-test : (t : List ℕ) (d : Device) → length t ≡ tableWords → same (drop blocksSize t) (behind d) ≡ true
+unfolding behind
+behind-test t d long = same-eq (drop blocksSize t) [] (no-element (drop blocksSize t) (length-drop blocksSize t ∙ (omega arith)))
+
+pub valid-test : (t : List ℕ) → length t ≡ tableWords → valid layout t ≡ blocksValid (take blocksSize t)
+unfolding valid wellFormed encode decode
 valid-test t long =
-    rw (take-all 4096 t (omega arith), eq-eqb (length (decode t)) 8 (decode-eight t))
-    (and-comm (allOf goodPlace (decode t) && distinctPlaces (decode t)) (same t (encode (decode t)))
-    ∙ ap₂ (λ (a b : Bool). same t (encode (decode t)) && (a && b))
-    (all-places goodPlace vacant (decode t) ∙ ap (λ (n : ℕ). allBelow n (λ k. goodPlace (placeAt k (decode t)))) (decode-eight t))
-    (distinct-test (decode t) ∙ ap (λ (n : ℕ). allBelow n (λ k. foundAgain k (decode t))) (decode-eight t)))
+    let b = take blocksSize t in
+    let d = decode t in
+    let cut : same t (blocks (placesIn b) ++ behind d) ≡ same b (blocks (placesIn b)) =
+    same-cut t (blocks (placesIn b)) (behind d) blocksSize (omega arith) (blocks-length-of b)
+    ∙ ap (λ (x : Bool). same b (blocks (placesIn b)) && x) (behind-test t d long)
+    ∙ and-true (same b (blocks (placesIn b))) in
+    ap (λ (w : List ℕ). wellFormed (decode w) && same w (encode (decode w))) (take-all tableWords t (omega arith))
+    ∙ ap (λ (x : Bool). goodPlaces (placesIn b) && x) cut
+    ∙ blocks-test b (length-take-le blocksSize t (omega arith))

@@ -1,14 +1,17 @@
 -- Rules of a valid table in the form in which the test looks at them.
-use Prim.Native.Nat.{ℕ}
-use mathlib.Core.Bool.{Bool, false, _||_}
+use Prim.Native.Nat.{ℕ, _*_, _%_}
+use mathlib.Core.Path.{_≡_}
+use mathlib.Core.Bool.{Bool, true, false, cond, _&&_}
 use mathlib.Core.Option.{Option, none, some}
-use mathlib.Core.List.{List, [], _∷_}
-use lib.ListN.{getD}
+use mathlib.Core.List.{List}
+use lib.ListN.{length, getD, drop}
 use lib.Dec.{eqb}
-use Rattle.laws.specs.Lists.{same}
-use Rattle.model.specs.Device.{Slot, free, resource, Device, present}
-use Rattle.table.specs.Blocks.{headWords, drainIn, placeWords, decodePlace}
-use Rattle.table.specs.Search.{placeAt, isVacant, streamIn, findStream}
+use Rattle.laws.specs.Lists.{same, numbersIn, standsIn, distinct}
+use Rattle.laws.specs.Tests.{allBelow}
+use Rattle.laws.specs.Parts.{part, readPieces}
+use Rattle.model.specs.Numbers.{streamPlaces}
+use Rattle.model.specs.WellFormed.{goodPlace}
+use Rattle.table.specs.Blocks.{placeSize, headWords, drainIn, placeWords, decodePlace}
 
 -- eight words are the head of the live stream that they stand for
 abbrev pub headStands : List ℕ → Bool
@@ -18,16 +21,31 @@ headStands h = same h (headWords (getD h 1 0) (getD h 2 0) (drainIn (getD h 3 0)
 abbrev pub placeStands : List ℕ → Bool
 placeStands w = same w (placeWords (decodePlace w))
 
--- a search for the number at a place comes back to it, so that no other place has it
-abbrev pub isPlace : ℕ → Option ℕ → Bool
-isPlace k none = false
-isPlace k (some j) = eqb j k
+-- and the place keeps the rules
+unfoldable pub placeValid : List ℕ → Bool
+placeValid w = placeStands w && goodPlace (decodePlace w)
 
-unfoldable pub foundAgain : ℕ → Device → Bool
-foundAgain k d = isVacant (placeAt k d) || isPlace k (findStream (streamIn (placeAt k d)) d)
+-- the number in an element's words: none where the first is 0, otherwise the second
+abbrev pub wordsNumber : List ℕ → Option ℕ
+wordsNumber w = cond (eqb (getD w 0 0) 0) none (some (getD w 1 0))
 
--- the number in the first of some slots stands in a later one too
-abbrev pub repeated : List Slot → Bool
-repeated [] = false
-repeated (free ∷ s) = false
-repeated (resource r p ∷ s) = present r s
+-- the numbers in `count` elements of `step` words each, from element i on
+unfoldable pub numbersFrom : ℕ → ℕ → ℕ → List ℕ → List ℕ
+numbersFrom i step count w = numbersIn wordsNumber (drop i (readPieces (λ x. x) step count w))
+
+-- the words of eight blocks are those of places that keep the rules, and no stream number stands twice
+unfoldable pub blocksValid : List ℕ → Bool
+blocksValid w = allBelow streamPlaces (λ k. placeValid (part (placeSize * k) placeSize w)) && distinct (numbersFrom 0 placeSize streamPlaces w)
+
+-- Sixty-four marks. Each number leaves one, so that a number whose mark is missing is new.
+
+-- the numbers are distinct, and each has left its mark
+pub record Apart (marks : List Bool) (l : List ℕ) : Type 0 where
+  pub size : length marks ≡ 64
+  pub once : distinct l ≡ true
+  pub marked : (n : ℕ) → standsIn n l ≡ true → getD marks (n % 64) false ≡ true
+
+-- what the test of one element more says of numbers that were apart: now one stands twice, or they still are
+pub record Told (r : Bool) (marks : List Bool) (l : List ℕ) : Type 0 where
+  pub again : r ≡ true → distinct l ≡ false
+  pub apart : r ≡ false → Apart marks l

@@ -25,8 +25,6 @@ pub use slots::SLOTS;
 pub use slots::set_created;
 pub use slots::set_dequeued;
 pub use slots::set_queued;
-pub use slots::slot_free;
-pub use slots::slot_holds;
 pub use slots::slot_number;
 pub use slots::slot_queued;
 pub use slots::slot_ticket;

@@ -1,13 +1,15 @@
--- `valid::checks::place_well` meets its contract: by cases on the place, and for a live stream one test after the other.
+-- `valid::places::place_well` meets its contract: by cases on the place, and for a live stream one test after the other.
 use mathlib.Core.Path.{_≡_, refl, sym, ap, _∙_}
-use mathlib.Core.Bool.{true, _&&_}
-use Prim.Native.Nat.{ℕ}
+use mathlib.Core.Bool.{Bool, true, _&&_}
+use mathlib.Core.List.{List}
+use Prim.Native.Nat.{ℕ, _^_, _<_}
 use native.Mathlib.Omega.{arith}
 use borrow.Author.Needs.{needs}
-use borrow.Author.Tests.{eqb-false, not-true, not-false}
+use lib.ListN.{getD}
+use borrow.Author.Tests.{eqb-false}
 use Rattle.laws.specs.Lists.{allOf}
 use Rattle.laws.specs.Tests.{within}
-use Rattle.laws.proofs.Tests.{within-true, within-below, within-above}
+use Rattle.laws.proofs.Tests.{passed, refused}
 use Rattle.model.specs.Numbers.{firstCoded, lastCoded}
 use Rattle.model.specs.Device.{input, output, Stream, vacant, occupied}
 use Rattle.model.specs.WellFormed.{u32, goodPlace}
@@ -20,20 +22,13 @@ use Rattle.valid.proofs.places.place_well.Statement.{statement}
 use Rattle.valid.proofs.places.place_well.Tie as tie
 
 -- what is left to test of a live stream, its words being 32-bit words
-rules : (c : tie.Else1) (n : ℕ) (s : Stream) → sized (occupied n s) ≡ true → c .before .before .before .args .b .now ≡ placeWords (occupied n s)
+rules : (l : List ℕ) → ((i : ℕ) → getD l i 0 < 2 ^ 32) → (n : ℕ) (s : Stream) → sized (occupied n s) ≡ true → l ≡ placeWords (occupied n s)
     → goodPlace (occupied n s) ≡ within (s .format) firstCoded lastCoded && (queueRules (s .inputs) && queueRules (s .outputs))
-rules c n s z e = wide-place n s z (ap (allOf u32) (sym e) ∙ all-words (c .before .before .before .args .b .now) (λ i. omega (arith, c .before .shared-slice-known2 .given i)))
+rules l narrow n s z e = wide-place n s z (ap (allOf u32) (sym e) ∙ all-words l narrow)
 
-format-ok : (c : tie.Else3) (n : ℕ) (s : Stream) →
-    let start = c .before .before .before .before .before .before in
-    start .args .b .now ≡ placeWords (occupied n s) → within (s .format) firstCoded lastCoded ≡ true
-format-ok c n s e =
-    within-true (s .format) firstCoded lastCoded (rw (format-word _ n s e) at (c .before .if2 .left)) (rw (format-word _ n s e) at (c .if3 .left))
-
-input-test : (c : tie.After-queue-well) (n : ℕ) (s : Stream) →
-    let after-shared-slice-known2 = c .before .before .before .before .before .before in let start = after-shared-slice-known2 .before .before in
-    sized (occupied n s) ≡ true → start .args .b .now ≡ placeWords (occupied n s) → c .queue-well .result ≡ queueRules (s .inputs)
-input-test c n s z e = c .queue-well .ensures (s .inputs) (queue-read n s z input 8 refl _ e)
+-- the test of the format, of which the word was read
+format-test : {r : Bool} (l : List ℕ) (n : ℕ) (s : Stream) → l ≡ placeWords (occupied n s) → r ≡ within (getD l 2 0) firstCoded lastCoded → r ≡ within (s .format) firstCoded lastCoded
+format-test l n s e h = h ∙ ap (λ (v : ℕ). within v firstCoded lastCoded) (format-word l n s e)
 
 shared-slice-read-if1 : tie.Need-shared-slice-read-if1
 shared-slice-read-if1 c = search needs
@@ -42,18 +37,20 @@ returns : tie.Need-returns
 returns c vacant z e = refl
 returns c (occupied n s) z e = absurd (eqb-false 1 0 refl (sym (live-word _ n s e) ∙ c .if1 .taken))
 
-shared-slice-read-format : tie.Need-shared-slice-read-format
-shared-slice-read-format c = search needs
+shared-slice-read-coded-good : tie.Need-shared-slice-read-coded-good
+shared-slice-read-coded-good c = search needs
+
+coded-good-requires : tie.Need-coded-good-requires
+coded-good-requires c κs = search needs
 
 returns-2 : tie.Need-returns-2
-returns-2 c vacant z e = absurd (c .before .before .if1 .left (vacant-word e))
+returns-2 c vacant z e =
+    let else1 = c .before .before .before in
+    absurd (else1 .if1 .left (vacant-word e))
 returns-2 c (occupied n s) z e =
-    sym (rules (c .before .before) n s z e ∙ rw (within-below (s .format) firstCoded lastCoded (rw (format-word _ n s e) at (c .if2 .taken))))
-
-returns-3 : tie.Need-returns-3
-returns-3 c vacant z e = absurd (c .before .before .before .if1 .left (vacant-word e))
-returns-3 c (occupied n s) z e =
-    sym (rules (c .before .before .before) n s z e ∙ rw (within-above (s .format) firstCoded lastCoded (rw (format-word _ n s e) at (c .if3 .taken))))
+    let after-coded-good = c .before in let after-shared-slice-known2 = after-coded-good .before .before .before in
+    sym (rules _ (λ i. omega (arith, after-shared-slice-known2 .shared-slice-known2 .given i)) n s z e
+    ∙ rw (refused (format-test _ n s e (after-coded-good .coded-good .ensures)) (c .if2 .taken)))
 
 sub-queue-well : tie.Need-sub-queue-well
 sub-queue-well c = search needs
@@ -67,13 +64,18 @@ part-queue-well-end c = search needs
 queue-well-requires : tie.Need-queue-well-requires
 queue-well-requires c κs = search needs
 
-returns-4 : tie.Need-returns-4
-returns-4 c vacant z e =
+returns-3 : tie.Need-returns-3
+returns-3 c vacant z e =
     let else1 = c .before .before .before .before .before .before in
     absurd (else1 .if1 .left (vacant-word e))
-returns-4 c (occupied n s) z e =
-    let after-queue-well = c .before in let else3 = after-queue-well .before .before in let else1 = else3 .before .before .before in
-    sym (rules else1 n s z e ∙ rw (format-ok else3 n s e, sym (input-test after-queue-well n s z e) ∙ not-true _ (c .if4 .taken)))
+returns-3 c (occupied n s) z e =
+    let after-queue-well = c .before in let else2 = after-queue-well .before .before in let after-coded-good = else2 .before in
+    let after-shared-slice-known2 = after-coded-good .before .before .before in
+    sym (rules _ (λ i. omega (arith, after-shared-slice-known2 .shared-slice-known2 .given i)) n s z e
+    ∙ rw (
+      passed (format-test _ n s e (after-coded-good .coded-good .ensures)) (else2 .if2 .left),
+      refused (after-queue-well .queue-well .ensures (s .inputs) (queue-read n s z input 8 refl _ e)) (c .if3 .taken),
+    ))
 
 sub-queue-well-2 : tie.Need-sub-queue-well-2
 sub-queue-well-2 c = search needs
@@ -87,15 +89,19 @@ part-queue-well-end-2 c = search needs
 queue-well-requires-2 : tie.Need-queue-well-requires-2
 queue-well-requires-2 c κs = search needs
 
-returns-5 : tie.Need-returns-5
-returns-5 c vacant z e =
-    let else2 = c .before .before .before .before .before .before in let else1 = else2 .before .before in
+returns-4 : tie.Need-returns-4
+returns-4 c vacant z e =
+    let after-coded-good = c .before .before .before .before .before .before in let else1 = after-coded-good .before .before in
     absurd (else1 .if1 .left (vacant-word e))
-returns-5 c (occupied n s) z e =
-    let else4 = c .before .before in let after-queue-well = else4 .before in let else3 = after-queue-well .before .before in
-    let else1 = else3 .before .before .before in
+returns-4 c (occupied n s) z e =
+    let else3 = c .before .before in let after-queue-well = else3 .before in let else2 = after-queue-well .before .before in
+    let after-coded-good = else2 .before in let after-shared-slice-known2 = after-coded-good .before .before .before in
     c .queue-well2 .ensures (s .outputs) (queue-read n s z output 92 refl _ e)
-    ∙ sym (rules else1 n s z e ∙ rw (format-ok else3 n s e, sym (input-test after-queue-well n s z e) ∙ not-false _ (else4 .if4 .left)))
+    ∙ sym (rules _ (λ i. omega (arith, after-shared-slice-known2 .shared-slice-known2 .given i)) n s z e
+    ∙ rw (
+      passed (format-test _ n s e (after-coded-good .coded-good .ensures)) (else2 .if2 .left),
+      passed (after-queue-well .queue-well .ensures (s .inputs) (queue-read n s z input 8 refl _ e)) (else3 .if3 .left),
+    ))
 
 pub place-well-spec : {M : Type 1} → statement M
 place-well-spec =
@@ -103,16 +109,16 @@ place-well-spec =
     (tie.spec
     shared-slice-read-if1
     returns
-    shared-slice-read-format
+    shared-slice-read-coded-good
+    coded-good-requires
     returns-2
-    returns-3
     sub-queue-well
     part-queue-well-start
     part-queue-well-end
     queue-well-requires
-    returns-4
+    returns-3
     sub-queue-well-2
     part-queue-well-start-2
     part-queue-well-end-2
     queue-well-requires-2
-    returns-5)
+    returns-4)

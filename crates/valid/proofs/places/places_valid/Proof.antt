@@ -1,0 +1,90 @@
+-- `valid::places_valid` meets its contract. The invariant: each block below `k` is that of a place that keeps the rules.
+use mathlib.Core.Path.{_≡_, sym, ap, _∙_}
+use mathlib.Core.Bool.{true}
+use Prim.Native.Nat.{ℕ, _≤_, _-_, _*_}
+use native.Mathlib.Nat.{add-sub-cancel-left}
+use native.Mathlib.Omega.{arith}
+use borrow.Author.Tests.{not-true, not-false}
+use borrow.Author.Needs.{needs}
+use Rattle.laws.specs.Parts.{part}
+use Rattle.laws.specs.Tests.{allBelow}
+use Rattle.laws.proofs.Tests.{all-none, all-more, all-fails}
+use Rattle.valid.specs.Rules.{placeValid}
+use Rattle.valid.proofs.places.places_valid.Statement.{statement}
+use Rattle.valid.proofs.places.places_valid.Tie as tie
+
+abbrev Inv-loop : tie.InvT-loop
+Inv-loop t k₀ k = (k ≤ 8) × (allBelow k (λ j. placeValid (part (512 * j) 512 t)) ≡ true)
+
+abbrev μ-loop : tie.MeasureT-loop
+μ-loop t k₀ k = 8 - k
+
+loop-holds : tie.Need-loop-holds Inv-loop μ-loop
+loop-holds c = (search needs, all-none (λ j. placeValid (part (512 * j) 512 (c .before .args .t .now))))
+
+mul-at : tie.Need-mul-at Inv-loop μ-loop
+mul-at c = search needs
+
+add-place-valid : tie.Need-add-place-valid Inv-loop μ-loop
+add-place-valid c = search needs
+
+mul-place-valid : tie.Need-mul-place-valid Inv-loop μ-loop
+mul-place-valid c = search needs
+
+sub-place-valid : tie.Need-sub-place-valid Inv-loop μ-loop
+sub-place-valid c = search needs
+
+part-place-valid-start : tie.Need-part-place-valid-start Inv-loop μ-loop
+part-place-valid-start c = search needs
+
+part-place-valid-end : tie.Need-part-place-valid-end Inv-loop μ-loop
+part-place-valid-end c = search needs
+
+place-valid-requires : tie.Need-place-valid-requires Inv-loop μ-loop
+place-valid-requires c κs = search needs
+
+returns : tie.Need-returns Inv-loop μ-loop
+returns c =
+    let s = c .before .before .before .before .before .before in
+    let l = c .before .before .before .before .loop in
+    let test = c .before .place-valid .ensures ∙ ap (λ (n : ℕ). placeValid (part (512 * l .k) n (s .args .t .now))) (add-sub-cancel-left (512 * l .k) 512) in
+    sym (all-fails (λ j. placeValid (part (512 * j) 512 (s .args .t .now))) 8 (l .k) (search needs) (sym test ∙ not-true _ (c .if1 .taken)))
+
+add-k : tie.Need-add-k Inv-loop μ-loop
+add-k c = search needs
+
+loop-less : tie.Need-loop-less Inv-loop μ-loop
+loop-less c = search needs
+
+loop-again : tie.Need-loop-again Inv-loop μ-loop
+loop-again c =
+    let s = c .before .before .before .before .before .before in
+    let l = c .before .before .before .before .loop in
+    let test = c .before .place-valid .ensures ∙ ap (λ (n : ℕ). placeValid (part (512 * l .k) n (s .args .t .now))) (add-sub-cancel-left (512 * l .k) 512) in
+    (search needs, all-more (λ j. placeValid (part (512 * j) 512 (s .args .t .now))) (l .k) (l .inv .1) (sym test ∙ not-false _ (c .if1 .left)))
+
+returns-2 : tie.Need-returns-2 Inv-loop μ-loop
+returns-2 c =
+    let l = c .before .loop in
+    let end : l .k ≡ 8 = omega (arith, c .loop-test .left) in
+    sym (rw end at (l .inv .1))
+
+pub places-valid-spec : {M : Type 1} → statement M
+places-valid-spec =
+    tie.close
+    (tie.spec
+    Inv-loop
+    μ-loop
+    loop-holds
+    mul-at
+    add-place-valid
+    mul-place-valid
+    sub-place-valid
+    part-place-valid-start
+    part-place-valid-end
+    place-valid-requires
+    returns
+    add-k
+    loop-less
+    loop-again
+    returns-2)
