@@ -43,8 +43,8 @@ same-length-2 c = search needs
 
 returns : tie.Need-returns
 returns c =
-    let after-command = c .before .before .before .before in
-    let after-found = after-command .before .before .before .before .before in let start = after-found .before .before .before .before .before in
+    let after-command = c .before .before .before .before in let after-found = after-command .before .before .before .before .before in
+    let start = after-found .before .before .before .before .before in
     after-command .command .ensures
     ∙ ap (λ (f : Frame). effect layout (now (start .args .table)) (framed f (now (start .args .frame))) (now (start .args .answers))) (sym (after-found .found .given .1))
 

@@ -9,12 +9,14 @@ use Rattle.replay.proofs.lines.finish.Statement.{statement}
 use Rattle.replay.proofs.lines.finish.Tie as tie
 
 returns : tie.Need-returns
-returns c = let a = c .before .before .before .args in (omega arith, end-empty layout (a .table .now) (a .held .now) (a .have) (c .if1 .taken))
+returns c =
+    let start = c .before .before .before .before .before .before in
+    let a = start .args in (omega arith, end-empty layout (a .table .now) (a .held .now) (a .have) (c .if1 .taken))
 
 slice-aggregate-log-line : tie.Need-slice-aggregate-log-line
 slice-aggregate-log-line c =
-    let start = c .before .before .before .before .before in
-    sym (length-take-le _ _ (start .pre))
+    let after-shared-slice-known = c .before .before .before .before .before .before in let start = after-shared-slice-known .before .before in
+    sym (length-take-le _ _ (start .pre .0))
 
 log-line-requires : tie.Need-log-line-requires
 log-line-requires c κs = search needs
@@ -22,13 +24,32 @@ log-line-requires c κs = search needs
 same-length : tie.Need-same-length
 same-length c = search needs
 
+same-length-2 : tie.Need-same-length-2
+same-length-2 c = search needs
+
+same-length-3 : tie.Need-same-length-3
+same-length-3 c = search needs
+
+same-length-4 : tie.Need-same-length-4
+same-length-4 c = search needs
+
 returns-2 : tie.Need-returns-2
 returns-2 c =
-    let after-log-line = c .before .before in let else1 = after-log-line .before .before .before .before in let start = else1 .before .before .before in (
+    let after-slice-known5 = c .before .before .before .before .before .before in let after-log-line = after-slice-known5 .before .before in
+    let else1 = after-log-line .before .before .before .before .before .before in let start = else1 .before .before .before .before .before .before in (
       after-log-line .log-line .ensures .0,
-      end-line layout (start .args .table .now) (start .args .held .now) (start .args .have) (else1 .if1 .left) (start .pre) (after-log-line .log-line .ensures .1),
+      end-line layout (start .args .table .now) (start .args .held .now) (start .args .have) (else1 .if1 .left) (start .pre .0) (after-log-line .log-line .ensures .1),
     )
 
 pub finish-spec : {M : Type 1} → statement M
 finish-spec =
-    tie.close (tie.spec returns slice-aggregate-log-line log-line-requires same-length returns-2)
+    tie.close
+    (tie.spec
+    returns
+    slice-aggregate-log-line
+    log-line-requires
+    same-length
+    same-length-2
+    same-length-3
+    same-length-4
+    returns-2)
