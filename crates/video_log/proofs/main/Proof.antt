@@ -5,11 +5,11 @@ use borrow.Author.Needs.{needs}
 use Rattle.video_log.proofs.main.Statement.{statement}
 use Rattle.video_log.proofs.main.Tie as tie
 
-slice-aggregate-virtio-video-fresh : tie.Need-slice-aggregate-virtio-video-fresh
-slice-aggregate-virtio-video-fresh c = search needs
+slice-aggregate-fresh : tie.Need-slice-aggregate-fresh
+slice-aggregate-fresh c = search needs
 
-virtio-video-fresh-requires : tie.Need-virtio-video-fresh-requires
-virtio-video-fresh-requires c κs = search needs
+fresh-requires : tie.Need-fresh-requires
+fresh-requires c κs = search needs
 
 slice-aggregate-read-all : tie.Need-slice-aggregate-read-all
 slice-aggregate-read-all c = search needs
@@ -39,8 +39,8 @@ pub main-spec : {M : Type 1} → statement M
 main-spec =
     tie.close
     (tie.spec
-    slice-aggregate-virtio-video-fresh
-    virtio-video-fresh-requires
+    slice-aggregate-fresh
+    fresh-requires
     slice-aggregate-read-all
     read-all-requires
     slice-aggregate-finish
