@@ -1,18 +1,17 @@
 -- Laws of the definitions, each in the form that a step of the code wants.
 use mathlib.Core.Path.{_≡_, refl, sym, ap, _∙_}
-use mathlib.Core.Bool.{Bool, true, false, not, _&&_, _||_, true≢false, false≢true}
-use mathlib.Core.List.{List, [], _∷_}
+use mathlib.Core.Bool.{true, false}
+use mathlib.Core.List.{List}
 use mathlib.Core.Option.{none, some}
 use Prim.Native.Nat.{ℕ, zero, suc, _+_, _*_, _-_, _^_, _<_}
-use native.Mathlib.Numerals.{add-one}
 use native.Mathlib.Omega.{arith}
 use lib.Dec.{leb, ltb, eqb}
 use lib.ListN.{length, getD, take, drop}
-use lib.Seq.{drop-drop, take-suc}
+use lib.Seq.{drop-drop}
 use borrow.Author.Tests.{ne-eqb}
 use Rattle.laws.specs.Lists.{total}
-use Rattle.laws.proofs.Tests.{leb-same, leb-not-ltb}
-use Rattle.laws.proofs.Lists.{decide, total-append}
+use Rattle.laws.proofs.Tests.{leb-same, leb-not-ltb, either, neither}
+use Rattle.laws.proofs.Lists.{decide, total-more}
 use Rattle.tag.specs.Tag.{nulAt, goodTag, tagLength}
 use Rattle.model.specs.Frames.{word, wordsAt, numEntries, entryAddr, entryLength, entryBytes}
 use Rattle.model.specs.Commands.{badEntry}
@@ -28,9 +27,6 @@ unfolding tagLength
 tag-missed t e = decide (goodTag t) (λ g. absurd (let z : _≡_ {A = ℕ} 0 1 = let w : none ≡ some (nulAt t) = rw g at e in cc in omega arith)) (λ g. sym g)
 
 -- Sums of entry counts
-
-total-more : (l : List ℕ) (i : ℕ) → i < length l → total (take (i + 1) l) ≡ total (take i l) + getD l i 0
-total-more l i h = rw (add-one i, take-suc l i 0 h) (total-append (take i l) (getD l i 0 ∷ []) ∙ (omega arith))
 
 words-length : (f : List ℕ) (at k : ℕ) → length (wordsAt f at k) ≡ k
 words-length f at zero = refl
@@ -55,16 +51,6 @@ unfolding goodEntry
 entry-test e address len p q h k =
     rw (← p, ← q, ne-eqb len 0 k)
     (leb-same (len - 1) (18446744073709551615 - address) (address + len) (2 ^ 64) (λ l. omega arith) (λ l. omega arith) ∙ leb-not-ltb (address + len) (2 ^ 64))
-
-either : (a b r : Bool) → not a && not b ≡ false → (a || (b || r)) ≡ true
-either true b r h = refl
-either false true r h = refl
-either false false r h = absurd (true≢false h)
-
-neither : (a b r : Bool) → not a && not b ≡ true → (a || (b || r)) ≡ r
-neither true b r h = absurd (false≢true h)
-neither false true r h = absurd (false≢true h)
-neither false false r h = refl
 
 -- the first of k entries, which stand from `at` on: a bad one decides, and behind a good one the others do
 module _ (es : List ℕ) (at : ℕ) where

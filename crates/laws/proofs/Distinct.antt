@@ -5,7 +5,7 @@ use mathlib.Core.Option.{Option, none, some}
 use mathlib.Core.List.{List, [], _∷_, _++_}
 use Prim.Native.Nat.{ℕ, zero, suc, _+_, _<_}
 use native.Mathlib.Numerals.{add-one}
-use lib.ListN.{length, getD, take, drop}
+use lib.ListN.{length, getD, drop}
 use lib.Seq.{take-at, drop-at, drop-cons}
 use Rattle.laws.specs.Lists.{allOf, toList, numbersIn, standsIn, distinct}
 use Rattle.laws.specs.Parts.{pieces, readPieces}

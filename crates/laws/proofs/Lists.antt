@@ -1,14 +1,16 @@
 -- Laws of lists picked by a test, of any, all and how many of their elements, and of sorting by a key: by cases on the test, with `decide`.
 use mathlib.Core.Path.{_≡_, refl, sym, ap, ap₂, _∙_}
-use mathlib.Core.Bool.{Bool, true, false, cond, not, _&&_, _||_, and-comm, and-assoc, false≢true}
+use mathlib.Core.Bool.{Bool, true, false, cond, not, _&&_, _||_, and-comm, and-assoc, true≢false, false≢true}
 use mathlib.Core.Option.{Option, none, some}
 use mathlib.Core.List.{List, [], _∷_, _++_, map, append-assoc, append-nil}
 use Prim.Native.Nat.{ℕ, zero, suc, _+_, _<_, _≤_}
 use native.Mathlib.Omega.{arith}
+use native.Mathlib.Numerals.{add-one}
 use lib.ListN.{length, take, drop, getD}
+use lib.Seq.{take-suc}
 use lib.Dec.{ltb, eqb}
 use borrow.Author.Tests.{eqb-true, ltb-true, ltb-false, lt-ltb, le-ltb, eqb-false, eq-eqb, ne-eqb, not-true}
-use Rattle.laws.specs.Lists.{keep, anyOf, allOf, count, isNone, total}
+use Rattle.laws.specs.Lists.{keep, anyOf, allOf, count, isEmpty, isNone, total}
 use Rattle.laws.specs.Ascending.{below, above, insert, ascending}
 use Rattle.laws.proofs.Tests.{both, and-left, and-right}
 
@@ -33,6 +35,10 @@ eqb-sym m n e = ne-eqb n m (λ p. eqb-false m n e (sym p))
 pub no-element : {A : Type 0} (l : List A) → length l ≡ 0 → l ≡ []
 no-element [] e = refl
 no-element (x ∷ l) e = absurd (omega arith)
+
+pub empty-is : {A : Type 0} (l : List A) → isEmpty l ≡ true → l ≡ []
+empty-is [] e = refl
+empty-is (x ∷ l) e = absurd (true≢false (sym e))
 
 -- a test that asks nothing of the element is passed by each
 pub all-true : {A : Type 0} (l : List A) → allOf (λ x. true) l ≡ true
@@ -148,6 +154,9 @@ module _ {A : Type 0} (p : A → Bool) where
 pub total-append : (l m : List ℕ) → total (l ++ m) ≡ total l + total m
 total-append [] m = omega arith
 total-append (x ∷ l) m = omega (arith, total-append l m)
+
+pub total-more : (l : List ℕ) (i : ℕ) → i < length l → total (take (i + 1) l) ≡ total (take i l) + getD l i 0
+total-more l i h = rw (add-one i, take-suc l i 0 h) (total-append (take i l) (getD l i 0 ∷ []) ∙ (omega arith))
 
 -- an option without a value
 pub none-is : {A : Type 0} (x : Option A) → isNone x ≡ true → x ≡ none

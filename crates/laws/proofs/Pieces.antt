@@ -11,8 +11,8 @@ use lib.Seq.{take-at, drop-at, drop-drop, take-suc}
 use Rattle.laws.specs.Lists.{allOf, same}
 use Rattle.laws.specs.Tests.{allBelow}
 use Rattle.laws.specs.Parts.{part, put, pieces, readPieces}
-use Rattle.laws.proofs.Tests.{and-left, and-right, all-ext}
-use Rattle.laws.proofs.Lists.{no-element}
+use Rattle.laws.proofs.Tests.{and-left, and-right, all-ext, both}
+use Rattle.laws.proofs.Lists.{no-element, all-append}
 use Rattle.laws.proofs.Parts.{part-after, put-after}
 use Rattle.laws.proofs.Same.{same-eq, same-cut}
 
@@ -121,3 +121,20 @@ module _ {A : Type 0} (f : A → List ℕ) where
 
   pub pieces-more : (l : List A) (i : ℕ) (d : A) → i < length l → pieces f (take (i + 1) l) ≡ pieces f (take i l) ++ f (getD l i d)
   pieces-more l i d h = rw (add-one i, take-suc l i d h, pieces-append (take i l) (getD l i d ∷ []), pieces-one (getD l i d))
+
+-- what holds of each word of the pieces, and of each element that is read
+pub all-pieces : {A : Type 0} (q : ℕ → Bool) (f : A → List ℕ) (p : A → Bool) → ((x : A) → p x ≡ true → allOf q (f x) ≡ true) → (l : List A) → allOf p l ≡ true → allOf q (pieces f l) ≡ true
+unfolding pieces
+all-pieces q f p h [] e = refl
+all-pieces q f p h (x ∷ l) e = all-append q (f x) (pieces f l) ∙ both (h x (and-left (p x) _ e)) (all-pieces q f p h l (and-right (p x) _ e))
+
+pub all-read : {A : Type 0} (g : List ℕ → A) (p : A → Bool) (k : ℕ) → ((w : List ℕ) → p (g w) ≡ true) → (n : ℕ) (w : List ℕ) → allOf p (readPieces g k n w) ≡ true
+unfolding readPieces
+all-read g p k h zero w = refl
+all-read g p k h (suc n) w = both (h (take k w)) (all-read g p k h n (drop k w))
+
+-- elements that are read and written again
+pub pieces-again : {A : Type 0} (f : A → List ℕ) (g : List ℕ → A) (k n : ℕ) (w : List ℕ) → pieces f (readPieces g k n w) ≡ pieces (λ x. f (g x)) (readPieces (λ x. x) k n w)
+unfolding pieces readPieces
+pieces-again f g k zero w = refl
+pieces-again f g k (suc n) w = ap (λ (r : List ℕ). f (g (take k w)) ++ r) (pieces-again f g k n (drop k w))

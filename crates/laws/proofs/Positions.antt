@@ -19,6 +19,11 @@ pub later-none : (o : Option ℕ) → later o ≡ none → o ≡ none
 later-none none e = refl
 later-none (some j) e = cc
 
+-- by a test that agrees
+pub position-ext : {A : Type 0} (p q : A → Bool) → ((x : A) → p x ≡ q x) → (l : List A) → position p l ≡ position q l
+position-ext p q h [] = refl
+position-ext p q h (x ∷ l) = simp (h x, position-ext p q h l)
+
 module _ {A : Type 0} (p : A → Bool) (d : A) where
   first-front : (q : ℕ → Bool) (n : ℕ) → first (suc n) q ≡ cond (q 0) (some 0) (later (first n (λ i. q (suc i))))
   unfolding first

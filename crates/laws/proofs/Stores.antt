@@ -70,3 +70,12 @@ sets-take d at i xs h =
 -- a run of stores as long as the list is all that is left of it
 pub sets-whole : (d xs : List ℕ) → length xs ≡ length d → sets d 0 xs ≡ xs
 sets-whole d xs h = sets-put d xs 0 (omega arith) ∙ rw (h, drop-length d) (append-nil xs)
+
+-- five words are stored one after the other
+pub five-stored : (l : List ℕ) (at a b c d e : ℕ) → at + 5 ≤ length l → set (set (set (set (set l at a) (at + 1) b) (at + 2) c) (at + 3) d) (at + 4) e ≡ put at 5 l (a ∷ b ∷ c ∷ d ∷ e ∷ [])
+five-stored l at a b c d e h =
+    let n₁ : at + 1 ≡ suc at = omega arith in
+    let n₂ : at + 2 ≡ suc (suc at) = omega arith in
+    let n₃ : at + 3 ≡ suc (suc (suc at)) = omega arith in
+    let n₄ : at + 4 ≡ suc (suc (suc (suc at))) = omega arith in
+    rw (n₁, n₂, n₃, n₄) (sets-put l (a ∷ b ∷ c ∷ d ∷ e ∷ []) at h)

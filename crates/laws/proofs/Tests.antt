@@ -1,6 +1,6 @@
 -- Laws of tests: both of two, of numbers, and of the bounded tests in the form that a loop which counts up wants (nothing yet, one more, the way out).
 use mathlib.Core.Path.{_≡_, refl, sym, _∙_}
-use mathlib.Core.Bool.{Bool, true, false, not, _&&_, and-false, and-eq-true-iff, true≢false, false≢true}
+use mathlib.Core.Bool.{Bool, true, false, not, _&&_, _||_, and-false, and-eq-true-iff, true≢false, false≢true}
 use mathlib.Core.Option.{Option, none, some}
 use Prim.Native.Nat.{ℕ, zero, suc, _+_, _≤_, _<_}
 use native.Mathlib.Numerals.{add-one}
@@ -61,6 +61,17 @@ same-test {r} {n} {m} p q = eq-eqb n m (sym p ∙ q)
 
 pub other-test : {r n m : ℕ} → r ≡ n → (r ≡ m → ⊥) → eqb n m ≡ false
 other-test {r} {n} {m} p q = ne-eqb n m (λ e. q (p ∙ e))
+
+-- one of two tests hits, or neither does
+pub either : (a b r : Bool) → not a && not b ≡ false → (a || (b || r)) ≡ true
+either true b r h = refl
+either false true r h = refl
+either false false r h = absurd (true≢false h)
+
+pub neither : (a b r : Bool) → not a && not b ≡ true → (a || (b || r)) ≡ r
+neither true b r h = absurd (false≢true h)
+neither false true r h = absurd (false≢true h)
+neither false false r h = refl
 
 -- not above is at most
 pub leb-not-ltb : (a b : ℕ) → leb a b ≡ not (ltb b a)
@@ -148,10 +159,6 @@ module _ (p : ℕ → Bool) where
   -- one that fails is enough
   pub all-fails : (n i : ℕ) → i < n → p i ≡ false → allBelow n p ≡ false
   all-fails n i h e = le-ind (λ (m : ℕ). allBelow m p ≡ false) (all-miss i e) (λ m _ r. all-on m r) n h
-
-  -- where all hold, each does
-  pub all-at : (n i : ℕ) → i < n → allBelow n p ≡ true → p i ≡ true
-  all-at n i h e = ne-false (p i) (λ f. true≢false (sym e ∙ all-fails n i h f))
 
 -- two tests that agree below the bound
 pub all-ext : (p q : ℕ → Bool) (n : ℕ) → ((i : ℕ) → i < n → p i ≡ q i) → allBelow n p ≡ allBelow n q

@@ -11,13 +11,12 @@ use borrow.Author.Tests.{eq-eqb, ne-eqb}
 use Rattle.laws.specs.Tests.{within}
 use Rattle.laws.proofs.Tests.{within-true, within-below, within-above}
 use Rattle.laws.proofs.Lists.{decide}
-use Rattle.laws.proofs.Stores.{rest, take-sets}
+use Rattle.laws.proofs.Stores.{rest, take-sets, sets-whole}
 use Rattle.field.specs.Field.{field}
 use Rattle.field.proofs.Laws.{field-part}
 use Rattle.model.specs.Steps.{command, finish, drained}
 use Rattle.line.specs.Hex.{isHex, hexBytes}
 use Rattle.line.specs.Line.{Line, step, noFrame, commandIn, finishIn, drainedIn, frameIn, lineOf, commandBytes}
-use Rattle.laws.proofs.Stores.{sets-whole}
 use Rattle.line.proofs.Digits.{length-bytes, bytes-drop, bytes-take, hex-even}
 
 -- By the first byte

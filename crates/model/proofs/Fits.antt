@@ -11,7 +11,7 @@ use borrow.Author.Tests.{not-false}
 use Rattle.laws.specs.Lists.{keep, anyOf, isEmpty, toList}
 use Rattle.laws.specs.Ascending.{insert}
 use Rattle.laws.proofs.Tests.{never}
-use Rattle.laws.proofs.Lists.{cond-elim, eqb-refl, eqb-sym, keep-ascending, keep-const, none-is, any-append, map-append}
+use Rattle.laws.proofs.Lists.{cond-elim, eqb-refl, eqb-sym, keep-ascending, keep-const, none-is, any-append, map-append, empty-is}
 use Rattle.field.specs.Field.{field}
 use Rattle.model.specs.Device.{QueueType, input, output, queued, dequeued, Queue, Stream, newStream, queueOf, withQueue, withDrain, withSlots, Buffer, queuedIn, byResource, buffers, bufferOf, present, addResource, setState, freeAll}
 use Rattle.model.specs.Frames.{QueueCommand, createResource, queueResource, destroyAll, clear, getParameters, setParameters, LiveCommand, destroy, drain, control, toQueue, create, live, CommandLine, commands, commandOf, wrongLength, queueNumber, queueNamed, codedFormat, resourceId, timestampSent}
@@ -155,10 +155,6 @@ same-queued q x b h = view-with q x b (λ o. buffers o b) (toList (b .draining))
 sane-of : (q : QueueType) (b : Stream) → Sane (some b) → Distinct (queueOf q b .slots)
 sane-of input b s = s .0
 sane-of output b s = s .1
-
-pub empty-is : {A : Type 0} (l : List A) → isEmpty l ≡ true → l ≡ []
-empty-is [] e = refl
-empty-is (i ∷ l) e = never (sym e)
 
 known-queue : (q : QueueType) (r ts : ℕ) → known (toBuffer (queueNumber q) r ts) ≡ true
 known-queue input r ts = refl

@@ -14,7 +14,7 @@ use Rattle.laws.proofs.Lists.{decide}
 use Rattle.laws.proofs.Same.{same-true}
 use Rattle.field.specs.Field.{field, littleEndian}
 use Rattle.model.specs.Numbers.{tableWords}
-use Rattle.model.specs.Device.{Stream, Device, recordOf, put, withPlaces, putBack}
+use Rattle.model.specs.Device.{Stream, Device, recordOf, withPlaces, putBack}
 use Rattle.model.specs.Answers.{ErrorCode, failure, words, responseBytes, bytesOf, answersIn}
 use Rattle.model.specs.Replies.{Reply, refuse}
 use Rattle.model.specs.Steps.{Act, command, finish, drained, Step, streamOf, serve, Outcome, refused, around, performOf, perform, hostRefusal, step, accepted, entryOf}

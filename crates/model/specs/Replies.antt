@@ -1,7 +1,7 @@
 -- What a step of one stream gives, and tests in order of which the first hit answers.
 use Prim.Native.Nat.{ℕ}
 use mathlib.Core.Bool.{Bool, cond}
-use mathlib.Core.Option.{Option, none, some}
+use mathlib.Core.Option.{Option}
 use mathlib.Core.List.{List, [], _∷_}
 use Rattle.model.specs.Device.{Stream}
 use Rattle.model.specs.Answers.{ErrorCode, Response, failure, Answer}

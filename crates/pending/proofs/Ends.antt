@@ -15,22 +15,19 @@ use Rattle.laws.proofs.Lists.{none-is, no-element, keep-ext, keep-const, map-ap
 use Rattle.laws.proofs.Ascending.{length-ascending}
 use Rattle.laws.proofs.Stores.{wrote-none, wrote-append}
 use Rattle.model.specs.Device.{QueueType, input, output, dequeued, Slot, resource, Stream, occupied, place, queueOf, withQueue, withSlots, Buffer, buffer, queuedIn, byResource, bufferOf, withDrain}
-use Rattle.model.specs.Frames.{queueNamed, queueType}
-use Rattle.model.specs.Answers.{invalidParameter, bufferDone, drainDone, failure, Answer, bytesOf}
-use Rattle.model.specs.Replies.{Reply, refuse, reply, first}
+use Rattle.model.specs.Frames.{queueNamed}
+use Rattle.model.specs.Answers.{bufferDone, drainDone, Answer, bytesOf}
+use Rattle.model.specs.Replies.{Reply, refuse, reply}
 use Rattle.model.specs.Commands.{stoppedAnswers, drainAnswers, onDestroy, drainEnded, drainLeft, onClear}
 use Rattle.model.specs.Reports.{timestampOf, badEos, endDrain, onDrained, finishBuffer, finishQueue, onFinish}
 use Rattle.model.proofs.Slots.{Distinct}
 use Rattle.model.proofs.Room.{length-queued}
 use Rattle.words.specs.Search.{slotAt, isQueued, numberIn, ticketIn, timestampIn, findResource, nextQueued}
-use Rattle.words.specs.declared.Found.{Found}
-use Rattle.words.specs.declared.Found.the-variants.{At}
-use Rattle.words.specs.Found.{Within}
 use Rattle.words.proofs.Bridge.{Next, next-found, next-missed, absent-buffer, find-number, find-set, find-queued, find-ticket, find-absent}
 use Rattle.table.specs.Blocks.{placeWords}
 use Rattle.answer.specs.Answer.{answerTo, plainBytes}
 use Rattle.answer.proofs.Laws.{plain-length, wrote-plain, buffer-length}
-use Rattle.stream.specs.Replied.{Holds, asked, Replied}
+use Rattle.stream.specs.Replied.{Holds, asked}
 use Rattle.pending.specs.Done.{Done, clearAnswers, destroyAnswers, clearLeaves}
 
 -- Reports that are refused, and reports that are answered

@@ -1,15 +1,12 @@
 // A clear and a destroy: the buffers that they stop and the drain that they end are answered before the command itself.
 ghost use mathlib.Core.Path.{_≡_};
 ghost use mathlib.Core.Bool.{true};
-ghost use mathlib.Core.Option.{some};
 ghost use mathlib.Core.List.{List, [], _∷_};
 ghost use Prim.Native.Nat.{ℕ, _+_, _<_, _≤_};
 ghost use lib.ListN.{length};
 ghost use Rattle.laws.specs.Stores.{Wrote};
-ghost use Rattle.model.specs.Device.{QueueType as Meant};
-ghost use Rattle.model.specs.Device.{Queue, Stream, occupied, Buffer, withDrain, withSlots, queuedIn, byResource, buffers, stopAll};
+ghost use Rattle.model.specs.Device.{QueueType as Meant, Queue, Stream, occupied, Buffer, withDrain, withSlots, queuedIn, byResource, buffers, stopAll};
 ghost use Rattle.model.specs.Answers.{bytesOf};
-ghost use Rattle.model.specs.Replies.{reply};
 ghost use Rattle.model.specs.Commands.{stoppedAnswers, drainAnswers, onDestroy, drainEnded, drainLeft, onClear};
 ghost use Rattle.model.specs.WellFormed.{distinctSlots};
 ghost use Rattle.words.specs.Words.{queueWords};

@@ -1,7 +1,6 @@
 -- What the queue types of the code stand for.
 use mathlib.Core.Option.{Option, none, some}
-use Rattle.model.specs.Device.{input, output}
-use Rattle.model.specs.Device.{QueueType as Meant}
+use Rattle.model.specs.Device.{input, output, QueueType as Meant}
 use Rattle.protocol.specs.declared.queue.QueueType.{QueueType}
 use Rattle.protocol.specs.declared.queue.QueueType.the-variants.{Input, Output}
 use Rattle.protocol.specs.declared.queue.Named.{Named}

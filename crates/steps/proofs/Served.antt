@@ -5,7 +5,7 @@ use mathlib.Core.Option.{Option, none, some}
 use mathlib.Core.List.{List, [], _∷_}
 use Prim.Native.Nat.{ℕ, _+_, _*_, _-_, _<_}
 use native.Mathlib.Nat.{add-sub-cancel-left}
-use lib.ListN.{length, take, set}
+use lib.ListN.{length, take}
 use Rattle.laws.specs.Parts.{part, put}
 use Rattle.laws.specs.Lists.{allOf}
 use Rattle.laws.specs.Stores.{Wrote}

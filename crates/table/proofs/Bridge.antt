@@ -9,7 +9,6 @@ use lib.ListN.{length, set}
 use lib.Dec.{eqb}
 use borrow.Author.Tests.{eqb-true}
 use Rattle.laws.specs.Lists.{isNone}
-use Rattle.laws.proofs.Tests.{and-left, and-right}
 use Rattle.laws.proofs.Lists.{decide}
 use Rattle.laws.proofs.Positions.{later-some, later-none}
 use Rattle.model.specs.Device.{Stream, Place, vacant, occupied, recordOf, noPlace, place, replace, install, put}

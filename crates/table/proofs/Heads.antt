@@ -1,12 +1,10 @@
 -- What the first words of a block say, and a block with other words there.
 use mathlib.Core.Path.{_≡_, refl, sym, ap, ap₂, _∙_}
-use mathlib.Core.Bool.{false}
 use mathlib.Core.Option.{Option, none, some}
 use mathlib.Core.List.{List, _∷_, _++_, append-assoc}
 use Prim.Native.Nat.{ℕ}
 use native.Mathlib.Omega.{arith}
 use lib.ListN.{length, getD, set, length-append, length-set}
-use lib.Dec.{eqb}
 use borrow.Author.Tests.{eqb-false}
 use Rattle.laws.specs.Parts.{part, put, zeros, pieces}
 use Rattle.laws.proofs.Parts.{zero-length, zero-at, zeros-append, part-mid, put-mid}
@@ -14,7 +12,7 @@ use Rattle.model.specs.Device.{Stream, Place, vacant, occupied, newQueue, newSt
 use Rattle.words.specs.Words.{queueWords}
 use Rattle.words.proofs.Records.{queue-length}
 use Rattle.table.specs.Blocks.{drainWords, headWords, placeWords}
-use Rattle.table.specs.Search.{isVacant, isStream}
+use Rattle.table.specs.Search.{isVacant, isStream, startsWith}
 
 -- Live or vacant, and the number
 
@@ -26,22 +24,16 @@ pub live-word : (l : List ℕ) (n : ℕ) (b : Stream) → l ≡ placeWords (occu
 unfolding placeWords headWords
 live-word l n b e = ap (λ (x : List ℕ). getD x 0 0) e
 
-number-word : (l : List ℕ) (n : ℕ) (b : Stream) → l ≡ placeWords (occupied n b) → getD l 1 0 ≡ n
-unfolding placeWords headWords
-number-word l n b e = ap (λ (x : List ℕ). getD x 1 0) e
+-- a live stream's block starts with 1 and its number, and a vacant one with zeros
+pub stream-starts : (n : ℕ) (p : Place) → startsWith 1 n (placeWords p) ≡ isStream n p
+unfolding startsWith placeWords headWords
+stream-starts n vacant = rw (vacant-word refl)
+stream-starts n (occupied m b) = refl
 
-pub vacant-test : (l : List ℕ) (p : Place) → l ≡ placeWords p → eqb (getD l 0 0) 0 ≡ isVacant p
-vacant-test l vacant e = rw (vacant-word e)
-vacant-test l (occupied n b) e = rw (live-word l n b e)
-
--- "is this the stream", on a block whose first word is 0 and on one whose first word is not
-pub stream-none : (n : ℕ) (l : List ℕ) (p : Place) → l ≡ placeWords p → getD l 0 0 ≡ 0 → false ≡ isStream n p
-stream-none n l vacant e z = refl
-stream-none n l (occupied m b) e z = absurd (eqb-false 1 0 refl (sym (live-word l m b e) ∙ z))
-
-pub stream-test : (n : ℕ) (l : List ℕ) (p : Place) → l ≡ placeWords p → (getD l 0 0 ≡ 0 → ⊥) → eqb (getD l 1 0) n ≡ isStream n p
-stream-test n l vacant e z = absurd (z (vacant-word e))
-stream-test n l (occupied m b) e z = ap (λ (x : ℕ). eqb x n) (number-word l m b e)
+pub vacant-starts : (p : Place) → startsWith 0 0 (placeWords p) ≡ isVacant p
+unfolding startsWith placeWords headWords
+vacant-starts vacant = rw (zero-at 512 0 (omega arith), zero-at 512 1 (omega arith))
+vacant-starts (occupied m b) = refl
 
 -- Coded format and drain
 

@@ -13,7 +13,6 @@ use borrow.Author.Tests.{eq-eqb, eqb-true}
 use Rattle.laws.specs.Lists.{allOf}
 use Rattle.laws.specs.Parts.{part, put, zeros}
 use Rattle.laws.proofs.Tests.{both, and-left, and-right}
-use Rattle.laws.proofs.Lists.{all-getD}
 use Rattle.laws.proofs.Parts.{zero-length, zero-at, part-mid, put-mid, part-front, put-front, lent}
 use Rattle.laws.proofs.Pieces.{pieces-length, pieces-part, pieces-put, pieces-read}
 use Rattle.model.specs.Numbers.{tableWords}
@@ -43,10 +42,6 @@ unfolding placeWords
 place-length vacant h = zero-length 512
 place-length (occupied n b) h =
     simp (length-append, head-length, queue-length (b .inputs) (sized-queue input n b h), queue-length (b .outputs) (sized-queue output n b h), zero-length)
-
--- a place of sized ones is sized
-pub place-sized : (ps : List Place) (k : ℕ) → allOf sized ps ≡ true → sized (placeAt k ps) ≡ true
-place-sized ps k s = all-getD sized ps k vacant refl s
 
 -- A queue in its place
 

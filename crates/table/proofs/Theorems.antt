@@ -1,9 +1,9 @@
 -- The statements of specs/Promises, proved: the layout is lawful, valid is exactly the tables of well-formed devices, and condition 3 and the
 -- model's other promises hold over its tables.
 use mathlib.Core.Path.{_≡_, refl, sym, ap, ap₂, _∙_}
-use mathlib.Core.Bool.{Bool, true, false, not, _&&_}
+use mathlib.Core.Bool.{Bool, true, false, _&&_}
 use mathlib.Core.Option.{Option, none, some}
-use mathlib.Core.List.{List, [], _∷_, _++_}
+use mathlib.Core.List.{List, [], _++_}
 use Prim.Native.Nat.{ℕ, zero, suc, _+_, _*_, _/_, _%_, _^_, _<_}
 use native.Mathlib.Nat.{mul-zero, mul-suc}
 use native.Mathlib.Omega.{arith}
@@ -17,6 +17,7 @@ use Rattle.laws.specs.Parts.{zeros, pieces}
 use Rattle.laws.proofs.Tests.{both, and-left, and-right, within-bounds}
 use Rattle.laws.proofs.Lists.{all-append, all-implied}
 use Rattle.laws.proofs.Parts.{zeros-append}
+use Rattle.laws.proofs.Pieces.{all-pieces}
 use Rattle.laws.proofs.Same.{same-refl, same-true}
 use Rattle.model.specs.Numbers.{tableWords, firstCoded, lastCoded}
 use Rattle.model.specs.Device.{created, queued, dequeued, Slot, free, resource, Queue, Stream, Place, vacant, occupied, Device, fresh}
@@ -120,11 +121,6 @@ narrow-slot (resource r (queued t ts)) h =
     both (and-left (u32 r) _ h) (both (and-left (u32 t) _ rest) (both (u32-of (ts % 2 ^ 32) (omega arith)) (both (u32-of (ts / 2 ^ 32) (omega arith)) refl)))
 narrow-slot (resource r dequeued) h = both (and-left (u32 r) _ h) refl
 
-narrow-pieces : {A : Type 0} (f : A → List ℕ) (p : A → Bool) → ((x : A) → p x ≡ true → allOf u32 (f x) ≡ true) → (l : List A) → allOf p l ≡ true → allOf u32 (pieces f l) ≡ true
-unfolding pieces
-narrow-pieces f p h [] e = refl
-narrow-pieces f p h (x ∷ l) e = all-append u32 (f x) (pieces f l) ∙ both (h x (and-left (p x) _ e)) (narrow-pieces f p h l (and-right (p x) _ e))
-
 narrow-flag : (b : Bool) → u32 (flagWord b) ≡ true
 narrow-flag true = u32-of 1 (omega arith)
 narrow-flag false = u32-of 0 (omega arith)
@@ -142,7 +138,7 @@ narrow-queue q h =
     (both (narrow-extent (q .width) (and-left (goodExtent (q .width)) _ params))
     (both (narrow-extent (q .height) (and-left (goodExtent (q .height)) _ more))
     (both (and-right (goodExtent (q .height)) _ more)
-    (narrow-pieces slotWords goodSlot narrow-slot (q .slots) (and-left (allOf goodSlot (q .slots)) _ (and-right (eqb (length (q .slots)) 16) _ slots))))))
+    (all-pieces u32 slotWords goodSlot narrow-slot (q .slots) (and-left (allOf goodSlot (q .slots)) _ (and-right (eqb (length (q .slots)) 16) _ slots))))))
 
 narrow-drain : (d : Option ℕ) → goodDrain d ≡ true → allOf u32 (drainWords d ++ zeros 3) ≡ true
 unfolding u32
@@ -171,7 +167,7 @@ pub narrow : Narrow
 unfolding encode blocks behind
 narrow d h =
     all-append u32 (blocks (d .places)) (behind d)
-    ∙ both (narrow-pieces placeWords goodPlace narrow-place (d .places) ((well-places d h) .each)) refl
+    ∙ both (all-pieces u32 placeWords goodPlace narrow-place (d .places) ((well-places d h) .each)) refl
 
 -- No streams
 

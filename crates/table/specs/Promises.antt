@@ -41,13 +41,13 @@ ConditionThree = OnTables layout
 
 -- the promises of model/specs/Promises over the tables of this device, with no layout left open
 pub record Promised : Type 0 where
-  -- a table under 4,096 words is not made fresh; any other is, and then stands for no stream
+  -- a short table is not made fresh; any other is, and then stands for no stream
   pub freshShort : FreshShort layout
   pub freshLong : FreshLong layout
   -- a refused step changes nothing; an error answer is one answer of 16 bytes, and the table stays
   pub refusalChangesNothing : RefusalChangesNothing layout
   pub errorChangesNothing : ErrorChangesNothing layout
-  -- the words behind the first 4,096 and the bytes behind those written stay
+  -- the words behind the used ones and the bytes behind those written stay
   pub keepsRest : KeepsRest layout
   -- a valid table stays valid
   pub staysValid : StaysValid layout

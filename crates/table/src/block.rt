@@ -11,6 +11,8 @@ ghost use Rattle.protocol.specs.Queue.{queueTypeOf};
 ghost use Rattle.table.specs.Values.{drainOf};
 use crate::Drain;
 use protocol::QueueType;
+use words::HEIGHT;
+use words::WIDTH;
 
 // The words of a block: whether the stream is live, its number and coded format, whether a drain is owed and its ticket, three without use, the two queues.
 pub const LIVE: usize = 0;
@@ -32,11 +34,7 @@ pub const OUTPUTS: usize = 92;
 // The first word behind the queues; from there on words have no use.
 pub const QUEUES_END: usize = 176;
 
-// The width and the height in a queue's words, and what a creation puts there.
-const WIDTH: usize = 1;
-
-const HEIGHT: usize = 2;
-
+// The width and the height that a creation puts into a queue's words.
 const NEW_WIDTH: u32 = 640;
 
 const NEW_HEIGHT: u32 = 480;

@@ -2,7 +2,7 @@
 use mathlib.Core.Path.{_≡_, refl, sym, ap, _∙_}
 use mathlib.Core.Bool.{Bool, true, false, _&&_, and-true, and-false}
 use mathlib.Core.List.{List, [], _∷_, _++_}
-use Prim.Native.Nat.{ℕ, zero, suc, _*_, _<_}
+use Prim.Native.Nat.{ℕ, _*_, _<_}
 use native.Mathlib.Omega.{arith}
 use lib.ListN.{length, getD, take, drop, length-drop}
 use lib.Seq.{drop-drop, take-all, length-take-le, getD-take}
@@ -10,11 +10,11 @@ use lib.Dec.{eqb, lit<}
 use borrow.Author.Tests.{eq-eqb, ne-eqb}
 use Rattle.laws.specs.Lists.{allOf, same, distinct}
 use Rattle.laws.specs.Tests.{allBelow}
-use Rattle.laws.specs.Parts.{part, zeros, pieces, readPieces}
-use Rattle.laws.proofs.Tests.{both, all-ext, all-both}
+use Rattle.laws.specs.Parts.{part, zeros}
+use Rattle.laws.proofs.Tests.{all-ext, all-both}
 use Rattle.laws.proofs.Lists.{cond-elim, eqb-refl, no-element}
 use Rattle.laws.proofs.Same.{same-eq, same-true, same-cut}
-use Rattle.laws.proofs.Pieces.{same-pieces, read-length, read-at, all-places}
+use Rattle.laws.proofs.Pieces.{same-pieces, read-length, read-at, all-places, all-read, pieces-again}
 use Rattle.model.specs.Numbers.{tableWords}
 use Rattle.model.specs.Device.{QueueType, input, output, Stream, Place, vacant, Device, queueOf}
 use Rattle.model.specs.WellFormed.{goodPlace, distinctPlaces, goodPlaces, wellFormed}
@@ -45,14 +45,9 @@ pub decoded-sized : (w : List ℕ) → sized (decodePlace w) ≡ true
 unfolding decodePlace
 decoded-sized w = cond-elim (λ (p : Place). sized p ≡ true) (eqb (getD w 0 0) 1) (λ _. queue-sized (getD w 1 0) (streamOf w) (sixteen w)) (λ _. refl)
 
-read-all : {A : Type 0} (g : List ℕ → A) (p : A → Bool) (k : ℕ) → ((w : List ℕ) → p (g w) ≡ true) → (n : ℕ) (w : List ℕ) → allOf p (readPieces g k n w) ≡ true
-unfolding readPieces
-read-all g p k h zero w = refl
-read-all g p k h (suc n) w = both (h (take k w)) (read-all g p k h n (drop k w))
-
 decode-sized : (w : List ℕ) → allOf sized (placesIn w) ≡ true
 unfolding placesIn
-decode-sized w = read-all decodePlace sized 512 decoded-sized 8 w
+decode-sized w = all-read decodePlace sized 512 decoded-sized 8 w
 
 decode-eight : (w : List ℕ) → length (placesIn w) ≡ 8
 unfolding placesIn
@@ -60,15 +55,10 @@ decode-eight w = read-length decodePlace 512 8 w
 
 -- The blocks, one by one
 
-compose : {A : Type 0} (f : A → List ℕ) (g : List ℕ → A) (k n : ℕ) (w : List ℕ) → pieces f (readPieces g k n w) ≡ pieces (λ x. f (g x)) (readPieces (λ x. x) k n w)
-unfolding pieces readPieces
-compose f g k zero w = refl
-compose f g k (suc n) w = ap (λ (r : List ℕ). f (g (take k w)) ++ r) (compose f g k n (drop k w))
-
 stands-test : (t : List ℕ) → length t ≡ blocksSize → same t (blocks (placesIn t)) ≡ allBelow 8 (λ k. placeStands (part (512 * k) 512 t))
 unfolding blocks placesIn
 stands-test t long =
-    ap (same t) (compose placeWords decodePlace 512 8 t)
+    ap (same t) (pieces-again placeWords decodePlace 512 8 t)
     ∙ same-pieces (λ w. placeWords (decodePlace w)) 512 (λ w. place-length (decodePlace w) (decoded-sized w)) (λ w. w) 8 t long
 
 -- A block, by its parts

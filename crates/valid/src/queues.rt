@@ -13,10 +13,16 @@ use protocol::extent_good;
 use words::DEQUEUED;
 use words::FIRST_SLOT;
 use words::FREE;
+use words::HEIGHT;
+use words::MARK;
 use words::QUEUE_WORDS;
 use words::QUEUED;
+use words::SLOT_NUMBER;
 use words::SLOT_SIZE;
+use words::SLOT_STATE;
+use words::SLOT_TICKET;
 use words::SLOTS;
+use words::WIDTH;
 
 // Whether all words are zero. It never stops early, so that the compiler takes several words at once.
 pub fn all_zero(s: &[u32]) -> bool
@@ -38,9 +44,9 @@ fn slot_stands(w: &[u32]) -> bool
     requires { ⌜ length (now w) ≡ 5 ⌝ }
     ensures { λ r. ⌜ r ≡ same (now (w .entry)) (slotWords (decodeSlot (now (w .entry)))) ⌝ }
 {
-    let state = w[0];
+    let state = w[SLOT_STATE];
     if state == FREE {
-        return all_zero(&w[1..5]);
+        return all_zero(&w[SLOT_NUMBER..SLOT_SIZE]);
     }
     if state == QUEUED {
         return true;
@@ -48,7 +54,7 @@ fn slot_stands(w: &[u32]) -> bool
     if DEQUEUED < state {
         return false;
     }
-    all_zero(&w[2..5])
+    all_zero(&w[SLOT_TICKET..SLOT_SIZE])
 }
 
 // Whether 84 words are those of the queue that they stand for.
@@ -56,7 +62,7 @@ pub fn queue_stands(q: &[u32]) -> bool
     requires { ⌜ length (now q) ≡ 84 ⌝ }
     ensures { λ r. ⌜ r ≡ same (now (q .entry)) (queueWords (decodeQueue (now (q .entry)))) ⌝ }
 {
-    if 1 < q[0] {
+    if 1 < q[MARK] {
         return false;
     }
     let mut i = 0;
@@ -75,10 +81,10 @@ pub fn queue_well(q: &[u32]) -> bool
     requires { ⌜ length (now q) ≡ 84 ⌝ }
     ensures { λ r. ⌜ ((Q : Queue) → now (q .entry) ≡ queueWords Q → r ≡ (goodExtent (Q .width) && (goodExtent (Q .height) && distinctSlots (Q .slots)))) ⌝ }
 {
-    if !extent_good(q[1]) {
+    if !extent_good(q[WIDTH]) {
         return false;
     }
-    if !extent_good(q[2]) {
+    if !extent_good(q[HEIGHT]) {
         return false;
     }
     numbers_distinct(&q[FIRST_SLOT..QUEUE_WORDS], SLOT_SIZE, SLOTS)

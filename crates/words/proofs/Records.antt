@@ -2,7 +2,7 @@
 use mathlib.Core.Path.{_≡_, refl, sym, ap, _∙_}
 use mathlib.Core.Bool.{Bool, true, false, not}
 use mathlib.Core.List.{List, [], _∷_, _++_}
-use Prim.Native.Nat.{ℕ, suc, _+_, _*_, _-_, _/_, _%_, _^_, _<_, _≤_}
+use Prim.Native.Nat.{ℕ, _+_, _*_, _/_, _%_, _^_, _<_}
 use native.Mathlib.Nat.{add-zero}
 use native.Mathlib.Omega.{arith}
 use lib.ListN.{length, getD, set, drop}
@@ -12,7 +12,7 @@ use Rattle.laws.specs.Parts.{part, put, pieces, readPieces}
 use Rattle.laws.proofs.Tests.{never}
 use Rattle.laws.proofs.Lists.{all-true}
 use Rattle.laws.proofs.Parts.{part-after, put-after}
-use Rattle.laws.proofs.Stores.{sets-put}
+use Rattle.laws.proofs.Stores.{five-stored}
 use Rattle.laws.proofs.Pieces.{pieces-length, pieces-part, pieces-put, pieces-read, read-length}
 use Rattle.model.specs.Device.{created, queued, dequeued, Slot, free, resource, Queue, withSlots}
 use Rattle.words.specs.Words.{slotWords, flagWord, queueWords, decodeSlot, decodeQueue}
@@ -122,15 +122,6 @@ holds-free r (resource m p) e = never (sym e)
 pub holds-number : (r : ℕ) (s : Slot) → isFree s ≡ false → isResource r s ≡ eqb (numberIn s) r
 holds-number r free e = never e
 holds-number r (resource m p) e = refl
-
--- five words are stored one after the other
-five-stored : (l : List ℕ) (at a b c d e : ℕ) → at + 5 ≤ length l → set (set (set (set (set l at a) (at + 1) b) (at + 2) c) (at + 3) d) (at + 4) e ≡ put at 5 l (a ∷ b ∷ c ∷ d ∷ e ∷ [])
-five-stored l at a b c d e h =
-    let n₁ : at + 1 ≡ suc at = omega arith in
-    let n₂ : at + 2 ≡ suc (suc at) = omega arith in
-    let n₃ : at + 3 ≡ suc (suc (suc at)) = omega arith in
-    let n₄ : at + 4 ≡ suc (suc (suc (suc at))) = omega arith in
-    rw (n₁, n₂, n₃, n₄) (sets-put l (a ∷ b ∷ c ∷ d ∷ e ∷ []) at h)
 
 -- The words of the slot at i are read, lent and come back as those of s, or stored one by one
 

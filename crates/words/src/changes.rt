@@ -9,12 +9,21 @@ use crate::slots::SLOTS;
 use crate::slots::set_free;
 use crate::slots::stop_slot;
 
+// The words of a queue before its slots: the clear-in-progress mark, and the parameters that are kept.
+pub const MARK: usize = 0;
+
+pub const WIDTH: usize = 1;
+
+pub const HEIGHT: usize = 2;
+
+const RATE: usize = 3;
+
 // The clear-in-progress mark.
 pub fn clearing(q: &[u32]) -> bool
     requires { ⌜ length (now q) ≡ 84 ⌝ }
     ensures { λ r. ⌜ ((Q : Queue) → now (q .entry) ≡ queueWords Q → r ≡ Q .clearing) ⌝ }
 {
-    q[0] != 0
+    q[MARK] != 0
 }
 
 // The width.
@@ -22,7 +31,7 @@ pub fn width(q: &[u32]) -> u32
     requires { ⌜ length (now q) ≡ 84 ⌝ }
     ensures { λ r. ⌜ ((Q : Queue) → now (q .entry) ≡ queueWords Q → r ≡ Q .width) ⌝ }
 {
-    q[1]
+    q[WIDTH]
 }
 
 // The height.
@@ -30,7 +39,7 @@ pub fn height(q: &[u32]) -> u32
     requires { ⌜ length (now q) ≡ 84 ⌝ }
     ensures { λ r. ⌜ ((Q : Queue) → now (q .entry) ≡ queueWords Q → r ≡ Q .height) ⌝ }
 {
-    q[2]
+    q[HEIGHT]
 }
 
 // The rate.
@@ -38,7 +47,7 @@ pub fn rate(q: &[u32]) -> u32
     requires { ⌜ length (now q) ≡ 84 ⌝ }
     ensures { λ r. ⌜ ((Q : Queue) → now (q .entry) ≡ queueWords Q → r ≡ Q .rate) ⌝ }
 {
-    q[3]
+    q[RATE]
 }
 
 // The clear-in-progress mark is dropped.
@@ -46,7 +55,7 @@ pub fn drop_mark(q: &mut [u32])
     requires { ⌜ length (now q) ≡ 84 ⌝ }
     ensures { λ _. ⌜ ((Q : Queue) → now (q .entry) ≡ queueWords Q → now (q .exit) ≡ queueWords (unmarked Q)) ⌝ }
 {
-    q[0] = 0;
+    q[MARK] = 0;
 }
 
 // Other parameters are kept.
@@ -54,9 +63,9 @@ pub fn set_parameters(q: &mut [u32], width: u32, height: u32, rate: u32)
     requires { ⌜ length (now q) ≡ 84 ⌝ }
     ensures { λ _. ⌜ ((Q : Queue) → now (q .entry) ≡ queueWords Q → now (q .exit) ≡ queueWords (withParameters width height rate Q)) ⌝ }
 {
-    q[1] = width;
-    q[2] = height;
-    q[3] = rate;
+    q[WIDTH] = width;
+    q[HEIGHT] = height;
+    q[RATE] = rate;
 }
 
 // Every Queued buffer becomes Dequeued.

@@ -15,6 +15,17 @@ pub const FIRST_SLOT: usize = 4;
 
 pub const SLOT_SIZE: usize = 5;
 
+// The words of a slot: state, number, ticket, and the timestamp's low and high word.
+pub const SLOT_STATE: usize = 0;
+
+pub const SLOT_NUMBER: usize = 1;
+
+pub const SLOT_TICKET: usize = 2;
+
+const LOW_WORD: usize = 3;
+
+const HIGH_WORD: usize = 4;
+
 // The states.
 pub const FREE: u32 = 0;
 
@@ -44,7 +55,7 @@ pub fn slot_holds(q: &[u32], k: usize, number: u32) -> bool
     if q[at] == FREE {
         return false;
     }
-    q[at + 1] == number
+    q[at + SLOT_NUMBER] == number
 }
 
 // Whether slot k holds a Queued buffer.
@@ -60,7 +71,7 @@ pub fn slot_number(q: &[u32], k: usize) -> u32
     requires { ⌜ (length (now q) ≡ 84) × (k < 16) ⌝ }
     ensures { λ r. ⌜ ((Q : Queue) → now (q .entry) ≡ queueWords Q → r ≡ numberIn (slotAt k (Q .slots))) ⌝ }
 {
-    q[FIRST_SLOT + SLOT_SIZE * k + 1]
+    q[FIRST_SLOT + SLOT_SIZE * k + SLOT_NUMBER]
 }
 
 // The ticket of the Queued buffer in slot k; 0 where there is none.
@@ -68,7 +79,7 @@ pub fn slot_ticket(q: &[u32], k: usize) -> u32
     requires { ⌜ (length (now q) ≡ 84) × (k < 16) ⌝ }
     ensures { λ r. ⌜ ((Q : Queue) → now (q .entry) ≡ queueWords Q → r ≡ ticketIn (slotAt k (Q .slots))) ⌝ }
 {
-    q[FIRST_SLOT + SLOT_SIZE * k + 2]
+    q[FIRST_SLOT + SLOT_SIZE * k + SLOT_TICKET]
 }
 
 // The timestamp of the Queued buffer in slot k; 0 where there is none.
@@ -77,7 +88,7 @@ pub fn slot_timestamp(q: &[u32], k: usize) -> u64
     ensures { λ r. ⌜ ((Q : Queue) → now (q .entry) ≡ queueWords Q → r ≡ timestampIn (slotAt k (Q .slots))) ⌝ }
 {
     let at = FIRST_SLOT + SLOT_SIZE * k;
-    (q[at + 3] as u64) + HIGH * (q[at + 4] as u64)
+    (q[at + LOW_WORD] as u64) + HIGH * (q[at + HIGH_WORD] as u64)
 }
 
 // Slot k gets the five words of a slot.
@@ -87,10 +98,10 @@ fn write_slot(q: &mut [u32], k: usize, state: u32, number: u32, ticket: u32, low
 {
     let at = FIRST_SLOT + SLOT_SIZE * k;
     q[at] = state;
-    q[at + 1] = number;
-    q[at + 2] = ticket;
-    q[at + 3] = low;
-    q[at + 4] = high;
+    q[at + SLOT_NUMBER] = number;
+    q[at + SLOT_TICKET] = ticket;
+    q[at + LOW_WORD] = low;
+    q[at + HIGH_WORD] = high;
 }
 
 // Slot k becomes free.

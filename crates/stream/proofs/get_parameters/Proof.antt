@@ -1,8 +1,6 @@
 -- `stream::get_parameters` meets its contract: what is kept of the queue is answered. That the words are a good stream's bounds width and height.
 use mathlib.Core.List.{[], _∷_}
 use mathlib.Core.Option.{some}
-use mathlib.Core.Path.{refl}
-use Prim.Native.Nat.{ℕ}
 use native.Mathlib.Omega.{arith}
 use borrow.Author.Needs.{needs}
 use Rattle.model.specs.Device.{queueOf}
