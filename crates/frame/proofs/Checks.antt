@@ -11,13 +11,13 @@ use Rattle.laws.specs.Tests.{within}
 use Rattle.laws.proofs.Lists.{decide}
 use Rattle.model.specs.Numbers.{firstCoded, lastCoded}
 use Rattle.model.specs.Device.{QueueType, Stream}
-use Rattle.model.specs.Frames.{QueueCommand, createResource, queueResource, destroyAll, clear, getParameters, setParameters, destroy, drain, control, toQueue, Command, create, live, Length, exactly, atLeast, CommandLine, commands, commandOf, wrongLength, commandType, inMemType, outMemType, codedFormat, planesLayout, numPlanes, entries, entryBytes, numDataSizes, formatSent, frameWidth}
+use Rattle.model.specs.Frames.{Command, Length, exactly, atLeast, CommandLine, commands, commandOf, wrongLength, commandType, inMemType, outMemType, codedFormat, planesLayout, numPlanes, entries, entryBytes, numDataSizes, formatSent, frameWidth}
 use Rattle.model.specs.Answers.{ErrorCode, invalidParameter}
 use Rattle.model.specs.Replies.{Reply, Request, fail, Tests, _⇒_then_, first}
 use Rattle.model.specs.Commands.{Surroundings, onCreate, badEntry, onCreateResource, onQueue, formatOf, goodExtent, onSet, onStream, onLine, onCommand}
 use Rattle.model.proofs.Lines.{each-line, by-type}
 use Rattle.frame.specs.Frame.{goodCreation, entrySum, goodEntries, goodResource, goodSizes, goodSet}
-use Rattle.frame.specs.Meant.{Verdict, wrong, right, verdict}
+use Rattle.frame.specs.Meant.{Verdict, wrong, right, verdict, leastLength}
 use Rattle.frame.specs.Rest.{restOfCreate, restOfResource, restOfQueue, restOfSet}
 
 -- Tests in order
@@ -74,22 +74,7 @@ module _ (around : Surroundings) (c : Request) where
   pub right-frame : (k : Command) → told ≡ right k → onCommand around c ≡ onStream around c k (c .self)
   right-frame k h = by-verdict (right k) h
 
--- the bytes that a command's frame has at least
-
-abbrev pub queueLength : QueueCommand → ℕ
-queueLength createResource = 88
-queueLength queueResource = 64
-queueLength destroyAll = 16
-queueLength clear = 16
-queueLength getParameters = 16
-queueLength setParameters = 120
-
-abbrev pub leastLength : Command → ℕ
-leastLength create = 88
-leastLength (live destroy) = 8
-leastLength (live drain) = 8
-leastLength (live control) = 16
-leastLength (live (toQueue k)) = queueLength k
+-- a frame has the bytes that its command needs
 
 abbrev leastOf : Length → ℕ
 leastOf (exactly n) = n

@@ -60,3 +60,19 @@ abbrev pub verdictOf : Checked → Verdict
 verdictOf Unknown = wrong invalidOperation
 verdictOf Wrong = wrong invalidParameter
 verdictOf (Right c) = right (meant c)
+
+-- the bytes that the frame of a command has at least: of one to a queue, and of any
+abbrev pub queueLength : model.QueueCommand → ℕ
+queueLength createResource = 88
+queueLength queueResource = 64
+queueLength destroyAll = 16
+queueLength clear = 16
+queueLength getParameters = 16
+queueLength setParameters = 120
+
+abbrev pub leastLength : model.Command → ℕ
+leastLength create = 88
+leastLength (live destroy) = 8
+leastLength (live drain) = 8
+leastLength (live control) = 16
+leastLength (live (toQueue k)) = queueLength k

@@ -13,5 +13,5 @@ pub record Promised : Type 0 where
   pub writesAnswers : WritesAnswers layout
   -- a log writes what the entries of its steps show, which are those of condition 3
   pub showsEntries : ShowsEntries layout
-  -- the example of document 01 and seven other logs, computed
+  -- the example of document 01, computed
   pub examples : Examples layout

@@ -8,8 +8,7 @@ ghost use Rattle.model.specs.Frames.{create, live, queueNamed, streamId, queueT
 ghost use Rattle.model.specs.Commands.{onQueueOf, onNamed, onLive};
 ghost use Rattle.model.specs.Steps.{command};
 ghost use Rattle.protocol.specs.Queue.{queueTypeOf};
-ghost use Rattle.frame.specs.Meant.{queueCommandOf, liveCommandOf, meant, right};
-ghost use Rattle.frame.proofs.Checks.{queueLength, leastLength};
+ghost use Rattle.frame.specs.Meant.{queueCommandOf, liveCommandOf, meant, right, queueLength, leastLength};
 ghost use Rattle.stream.specs.Replied.{Holds, Live, asked, Replied};
 ghost use Rattle.steps.specs.Served.{Encodes, Good, Served, told};
 use crate::places::live_place;

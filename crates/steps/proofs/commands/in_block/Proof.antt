@@ -11,8 +11,7 @@ use Rattle.model.specs.Frames.{QueueCommand, createResource, queueResource, des
 use Rattle.model.specs.Answers.{unsupportedControl}
 use Rattle.model.specs.Commands.{onLive}
 use Rattle.frame.specs.declared.commands.LiveCommand.{LiveCommand}
-use Rattle.frame.specs.Meant.{queueCommandOf, liveCommandOf}
-use Rattle.frame.proofs.Checks.{queueLength, leastLength}
+use Rattle.frame.specs.Meant.{queueCommandOf, liveCommandOf, queueLength, leastLength}
 use Rattle.stream.specs.Replied.{asked}
 use Rattle.stream.proofs.Steps.{failed}
 use Rattle.steps.proofs.Served.{replied-as}

@@ -7,8 +7,7 @@ use borrow.Author.Needs.{needs}
 use Rattle.model.specs.Device.{QueueType, Stream}
 use Rattle.model.specs.Commands.{onQueueOf}
 use Rattle.frame.specs.declared.commands.QueueCommand.{QueueCommand}
-use Rattle.frame.specs.Meant.{queueCommandOf}
-use Rattle.frame.proofs.Checks.{queueLength}
+use Rattle.frame.specs.Meant.{queueCommandOf, queueLength}
 use Rattle.stream.specs.Replied.{asked}
 use Rattle.steps.proofs.Served.{replied-as}
 use Rattle.steps.proofs.commands.in_queue.Statement.{statement}
