@@ -260,7 +260,7 @@ finish-told q r i b s f = go q refl
     out = keep-ascending byRes (isRes r) (queuedIn (queueOf q b .slots)) ∙ ap byResource (queued-only r i (queueOf q b .slots) (sane-of q b s) f) ∙ one-of i
 
     go : (o : QueueType) → q ≡ o → i .ticket ∷ [] ≡ ticketsOf (pick (finishes (queueNumber q) r) (record { queued = λ x. buffers x b; drains = toList (b .draining) }))
-    go input e = simp (e, subst (λ (x : QueueType). keep (isRes r) (buffers x b) ≡ i ∷ []) e out, keep-const false (b .outputs .slots), keep-const false (buffers output b))
+    go input e = simp (e, subst (λ (x : QueueType). keep (isRes r) (buffers x b) ≡ i ∷ []) e out, keep-const false (buffers output b))
     go output e = simp (e, subst (λ (x : QueueType). keep (isRes r) (buffers x b) ≡ i ∷ []) e out, keep-const false (buffers input b))
 
 finish-fits : (q : QueueType) (n r : ℕ) (a : Answer) (i : Buffer) (b : Stream) → Sane (some b) → bufferOf r (queuedIn (queueOf q b .slots)) ≡ some i
