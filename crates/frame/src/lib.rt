@@ -8,6 +8,7 @@ ghost use Rattle.tag.specs.Tag.{goodTag, tagIn};
 ghost use Rattle.model.specs.Frames.{commandType, streamId, codedFormat, queueType, resourceId, numEntries, timestampSent, frameWidth, frameHeight, frameRate};
 ghost use Rattle.model.specs.Commands.{badEntry};
 ghost use Rattle.frame.specs.Frame.{goodCreation, goodEntry, goodEntries, goodResource, goodSizes, goodSet};
+use protocol::HEADER;
 use protocol::MOST_PLANES;
 use protocol::coded_good;
 use protocol::extent_good;
@@ -17,7 +18,6 @@ mod commands;
 
 pub use commands::Checked;
 pub use commands::Command;
-pub use commands::Line;
 pub use commands::LiveCommand;
 pub use commands::QueueCommand;
 pub use commands::check;
@@ -155,7 +155,7 @@ pub fn timestamp(frame: &[u8]) -> u64
     requires { ⌜ 64 ≤ length (now frame) ⌝ }
     ensures { λ r. ⌜ r ≡ timestampSent (now (frame .entry)) ⌝ }
 {
-    let payload = &frame[8..];
+    let payload = &frame[HEADER..];
     field::read_u64(payload, TIMESTAMP)
 }
 

@@ -3,6 +3,7 @@ ghost use mathlib.Core.Path.{_≡_};
 ghost use Rattle.model.specs.Tables.{freshen};
 ghost use Rattle.table.specs.Blocks.{layout};
 ghost use Rattle.table.specs.Values.{freshened};
+use protocol::SHORT_TABLE;
 
 mod block;
 mod search;
@@ -47,7 +48,7 @@ pub fn fresh(table: &mut [u32]) -> u32
     ensures { λ r. ⌜ freshened r (now (table .exit)) ≡ freshen layout (now (table .entry)) ⌝ }
 {
     if table.len() < TABLE_WORDS {
-        return 1;
+        return SHORT_TABLE;
     }
     clear(&mut table[0..TABLE_WORDS]);
     0
