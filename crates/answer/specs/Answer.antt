@@ -5,7 +5,7 @@ use mathlib.Core.List.{List, [], _∷_}
 use Prim.Native.Nat.{ℕ}
 use lib.ListN.{replicate}
 use Rattle.model.specs.Device.{QueueType, Stream, queueOf}
-use Rattle.model.specs.Answers.{code, Response, success, bufferDone, drainDone, parameters, failure, Answer, words}
+use Rattle.model.specs.Answers.{code, Response, success, bufferDone, drainDone, parameters, failure, Answer, wordBytes}
 use Rattle.model.specs.Commands.{formatOf}
 
 -- a response to a stream, under a ticket
@@ -14,7 +14,7 @@ answerTo ticket stream response = record { ticket = ticket; stream = stream; res
 
 -- the bytes of an answer that is a code and the stream number
 unfoldable pub plainBytes : ℕ → ℕ → ℕ → List ℕ
-plainBytes ticket code stream = words (ticket ∷ 8 ∷ code ∷ stream ∷ [])
+plainBytes ticket code stream = wordBytes (ticket ∷ 8 ∷ code ∷ stream ∷ [])
 
 -- the code of a response that has nothing but a code and the stream number
 abbrev pub plainCode : Response → Option ℕ

@@ -6,9 +6,9 @@ ghost use lib.ListN.{length};
 ghost use lib.Seq.{sets};
 ghost use Rattle.laws.specs.Stores.{Wrote};
 ghost use Rattle.model.specs.Device.{Queue, Stream, QueueType as Meant};
-ghost use Rattle.model.specs.Answers.{bufferDone, parameters, words, bytesOf};
+ghost use Rattle.model.specs.Answers.{bufferDone, parameters, wordBytes, bytesOf};
 ghost use Rattle.model.specs.Commands.{planes, parameterWords};
-ghost use Rattle.protocol.specs.Queue.{queueTypeOf};
+ghost use Rattle.protocol.specs.QueueTypes.{queueTypeOf};
 ghost use Rattle.answer.specs.Answer.{answerTo, plainBytes, pairs, NumbersOf};
 use protocol::OK;
 use protocol::PARAMETERS;
@@ -77,7 +77,7 @@ pub fn put_parameters(
 // Stores the end of a queue's parameters, 80 bytes: width and height of the crop, rate, plane count, 8 pairs of size and stride.
 fn put_planes(out: &mut [u8], at: usize, q: QueueType, width: u32, height: u32, rate: u32)
     requires { ⌜ (at + 80 ≤ length (now out)) × (width ≤ 4096) × (height ≤ 4096) ⌝ }
-    ensures { λ _. ⌜ ((Q : Queue) → width ≡ Q .width → height ≡ Q .height → now (out .exit) ≡ sets (now (out .entry)) at (words (width ∷ height ∷ rate ∷ planes (queueTypeOf q) Q))) ⌝ }
+    ensures { λ _. ⌜ ((Q : Queue) → width ≡ Q .width → height ≡ Q .height → now (out .exit) ≡ sets (now (out .entry)) at (wordBytes (width ∷ height ∷ rate ∷ planes (queueTypeOf q) Q))) ⌝ }
 {
     let QueueType::Input = q else {
         let size = width * height;
@@ -92,7 +92,7 @@ fn put_planes(out: &mut [u8], at: usize, q: QueueType, width: u32, height: u32, 
 // Stores 8 pairs of size and stride, 64 bytes, of which the last six are 0.
 fn put_pairs(out: &mut [u8], at: usize, size0: u32, stride0: u32, size1: u32, stride1: u32)
     requires { ⌜ at + 64 ≤ length (now out) ⌝ }
-    ensures { λ _. ⌜ now (out .exit) ≡ sets (now (out .entry)) at (words (pairs size0 stride0 size1 stride1)) ⌝ }
+    ensures { λ _. ⌜ now (out .exit) ≡ sets (now (out .entry)) at (wordBytes (pairs size0 stride0 size1 stride1)) ⌝ }
 {
     put_words(out, at, size0, stride0, size1, stride1);
     put_words(out, at + 16, 0, 0, 0, 0);
@@ -103,7 +103,7 @@ fn put_pairs(out: &mut [u8], at: usize, size0: u32, stride0: u32, size1: u32, st
 // Stores four words, 16 bytes.
 fn put_words(out: &mut [u8], at: usize, a: u32, b: u32, c: u32, d: u32)
     requires { ⌜ at + 16 ≤ length (now out) ⌝ }
-    ensures { λ _. ⌜ now (out .exit) ≡ sets (now (out .entry)) at (words (a ∷ b ∷ c ∷ d ∷ [])) ⌝ }
+    ensures { λ _. ⌜ now (out .exit) ≡ sets (now (out .entry)) at (wordBytes (a ∷ b ∷ c ∷ d ∷ [])) ⌝ }
 {
     field::put_u32(out, at, a);
     field::put_u32(out, at + 4, b);

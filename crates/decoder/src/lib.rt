@@ -1,11 +1,11 @@
-// The command core of a virtio-video decoder, for a host that links it: four entries, safe on any bytes and words. Each states its whole
+// The command core of a virtio-video decoder, for a host that links it: four functions, safe on any bytes and words. Each states its whole
 // outcome by one equation to the model: `freshen` and `effect` of crates/model/specs/Tables, over the layout of crates/table/specs/Blocks.
 ghost use mathlib.Core.Path.{_≡_};
 ghost use Rattle.model.specs.Steps.{command, finish, drained};
 ghost use Rattle.model.specs.Tables.{freshen, effect};
 ghost use Rattle.table.specs.Blocks.{layout};
 ghost use Rattle.table.specs.Values.{freshened};
-ghost use Rattle.entry.specs.Entry.{asEffect};
+ghost use Rattle.guard.specs.AsEffect.{asEffect};
 use protocol::Outcome;
 
 // Makes a table fresh: the used words are those of no stream.
@@ -26,7 +26,7 @@ pub extern "C" fn virtio_video_command(
 ) -> Outcome
     ensures { λ r. ⌜ asEffect r (now (table .exit)) (now (answers .exit)) ≡ effect layout (now (table .entry)) (command ticket (now (frame .entry))) (now (answers .entry)) ⌝ }
 {
-    entry::command(table, ticket, frame, answers)
+    guard::command(table, ticket, frame, answers)
 }
 
 // The back end reports that it has finished a buffer: its answer is written to the room.
@@ -42,10 +42,10 @@ pub extern "C" fn virtio_video_finish(
 ) -> Outcome
     ensures { λ r. ⌜ asEffect r (now (table .exit)) (now (answers .exit)) ≡ effect layout (now (table .entry)) (finish stream queue resource flags timestamp) (now (answers .entry)) ⌝ }
 {
-    entry::finish(table, stream, queue, resource, flags, timestamp, answers)
+    guard::finish(table, stream, queue, resource, flags, timestamp, answers)
 }
 
-// The back end reports that it has drained a stream: the owed answer is written to the room.
+// The back end reports that it has drained a stream: the pending answer is written to the room.
 #[no_mangle]
 pub extern "C" fn virtio_video_drained(
     table: &mut [u32],
@@ -54,5 +54,5 @@ pub extern "C" fn virtio_video_drained(
 ) -> Outcome
     ensures { λ r. ⌜ asEffect r (now (table .exit)) (now (answers .exit)) ≡ effect layout (now (table .entry)) (drained stream) (now (answers .entry)) ⌝ }
 {
-    entry::drained(table, stream, answers)
+    guard::drained(table, stream, answers)
 }

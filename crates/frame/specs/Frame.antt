@@ -1,5 +1,5 @@
 -- When the frame f of a command is good, by the model's fields and in the order of its tests. A bridge between the code and the model, which
--- proofs/Checks ties to the model's own tests: it need not be read to believe the contracts of the entries.
+-- proofs/Checks ties to the model's own tests: it need not be read to believe the contracts of the exported functions.
 use mathlib.Core.Bool.{Bool, not, _&&_}
 use mathlib.Core.List.{List}
 use Prim.Native.Nat.{ℕ, _+_, _*_, _^_}

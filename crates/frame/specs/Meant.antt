@@ -2,7 +2,7 @@
 use mathlib.Core.Bool.{cond}
 use mathlib.Core.Option.{Option, none, some}
 use Prim.Native.Nat.{ℕ}
-use Rattle.model.specs.Frames.{createResource, queueResource, destroyAll, clear, getParameters, setParameters, destroy, drain, control, toQueue, create, live, exactly, atLeast, CommandLine, wrongLength}
+use Rattle.model.specs.Frames.{createResource, queueResource, destroyAll, clear, getParameters, setParameters, destroy, drain, control, toQueue, create, live, exactly, atLeast, wrongLength}
 use Rattle.model.specs.Frames as model
 use Rattle.model.specs.Answers.{ErrorCode, invalidOperation, invalidParameter}
 use Rattle.frame.specs.declared.commands.QueueCommand.{QueueCommand}
@@ -11,8 +11,8 @@ use Rattle.frame.specs.declared.commands.LiveCommand.{LiveCommand}
 use Rattle.frame.specs.declared.commands.LiveCommand.the-variants.{Destroy, Drain, Control, ToQueue}
 use Rattle.frame.specs.declared.commands.Command.{Command}
 use Rattle.frame.specs.declared.commands.Command.the-variants.{Create, Live}
-use Rattle.frame.specs.declared.commands.Line.{Line}
-use Rattle.frame.specs.declared.commands.Line.the-variants.{Exactly, AtLeast, Missing}
+use Rattle.frame.specs.declared.commands.CommandRule.{CommandRule}
+use Rattle.frame.specs.declared.commands.CommandRule.the-variants.{Exactly, AtLeast, Missing}
 use Rattle.frame.specs.declared.commands.Checked.{Checked}
 use Rattle.frame.specs.declared.commands.Checked.the-variants.{Unknown, Wrong, Right}
 
@@ -41,19 +41,19 @@ pub data Verdict : Type 0 where
   right : model.Command → Verdict
 
 -- of a frame of n bytes for a command with a rule of length
-abbrev pub ruled : model.Length → model.Command → ℕ → Verdict
+abbrev pub ruled : model.LengthRule → model.Command → ℕ → Verdict
 ruled rule c n = cond (wrongLength rule n) (wrong invalidParameter) (right c)
 
--- of one whose type has that line in the table of commands, or none
-abbrev pub verdict : Option CommandLine → ℕ → Verdict
+-- of one whose type has that rule in the table of commands, or none
+abbrev pub verdict : Option model.CommandRule → ℕ → Verdict
 verdict none n = wrong invalidOperation
-verdict (some l) n = ruled (l .rule) (l .command) n
+verdict (some l) n = ruled (l .lengthRule) (l .command) n
 
--- the same, by the code's line
-abbrev pub lineVerdict : Line → ℕ → Verdict
-lineVerdict (Exactly k c) n = ruled (exactly k) (meant c) n
-lineVerdict (AtLeast k c) n = ruled (atLeast k) (meant c) n
-lineVerdict Missing n = wrong invalidOperation
+-- the same, by the code's rule
+abbrev pub ruleVerdict : CommandRule → ℕ → Verdict
+ruleVerdict (Exactly k c) n = ruled (exactly k) (meant c) n
+ruleVerdict (AtLeast k c) n = ruled (atLeast k) (meant c) n
+ruleVerdict Missing n = wrong invalidOperation
 
 -- what the code's test found
 abbrev pub verdictOf : Checked → Verdict

@@ -1,5 +1,5 @@
 -- What is left of each command's tests behind a good frame: those of the stream's record, in the model's order. q is the queue that the frame
--- names. A bridge between the code and the model: it need not be read to believe the contracts of the entries.
+-- names. A bridge between the code and the model: it need not be read to believe the contracts of the exported functions.
 use mathlib.Core.Bool.{not, _&&_}
 use mathlib.Core.Option.{some}
 use mathlib.Core.List.{[]}

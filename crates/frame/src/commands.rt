@@ -2,7 +2,7 @@
 ghost use mathlib.Core.Path.{_≡_};
 ghost use Prim.Native.Nat.{ℕ};
 ghost use Rattle.model.specs.Frames.{commandOf};
-ghost use Rattle.frame.specs.Meant.{verdict, verdictOf, lineVerdict};
+ghost use Rattle.frame.specs.Meant.{verdict, verdictOf, ruleVerdict};
 
 // The commands to a queue of a live stream.
 pub enum QueueCommand {
@@ -28,8 +28,8 @@ pub enum Command {
     Live(LiveCommand),
 }
 
-// A line of the table of commands: the length of the frame, and the command.
-pub enum Line {
+// A rule of the table of commands: the length of the frame, and the command.
+pub enum CommandRule {
     Exactly(usize, Command),
     AtLeast(usize, Command),
     Missing,
@@ -46,56 +46,59 @@ pub enum Checked {
 pub fn check(kind: u32, len: usize) -> Checked
     ensures { λ r. ⌜ verdictOf r ≡ verdict (commandOf kind) len ⌝ }
 {
-    let line = line_of(kind);
-    match line {
-        Line::Exactly(n, command) => {
+    let rule = rule_of(kind);
+    match rule {
+        CommandRule::Exactly(n, command) => {
             if len == n {
                 return Checked::Right(command);
             }
             Checked::Wrong
         }
-        Line::AtLeast(n, command) => {
+        CommandRule::AtLeast(n, command) => {
             if len < n {
                 return Checked::Wrong;
             }
             Checked::Right(command)
         }
-        Line::Missing => Checked::Unknown,
+        CommandRule::Missing => Checked::Unknown,
     }
 }
 
-// The line of a type.
-fn line_of(kind: u32) -> Line
-    ensures { λ r. ⌜ ((n : ℕ) → lineVerdict r n ≡ verdict (commandOf kind) n) ⌝ }
+// The rule of a type.
+fn rule_of(kind: u32) -> CommandRule
+    ensures { λ r. ⌜ ((n : ℕ) → ruleVerdict r n ≡ verdict (commandOf kind) n) ⌝ }
 {
     match kind {
-        0x0101 => Line::Exactly(88, Command::Create),
-        0x0102 => Line::Exactly(8, Command::Live(LiveCommand::Destroy)),
-        0x0103 => Line::Exactly(8, Command::Live(LiveCommand::Drain)),
-        0x0104 => Line::AtLeast(
+        0x0101 => CommandRule::Exactly(88, Command::Create),
+        0x0102 => CommandRule::Exactly(8, Command::Live(LiveCommand::Destroy)),
+        0x0103 => CommandRule::Exactly(8, Command::Live(LiveCommand::Drain)),
+        0x0104 => CommandRule::AtLeast(
             88,
             Command::Live(LiveCommand::ToQueue(QueueCommand::CreateResource)),
         ),
-        0x0105 => Line::Exactly(
+        0x0105 => CommandRule::Exactly(
             64,
             Command::Live(LiveCommand::ToQueue(QueueCommand::QueueResource)),
         ),
-        0x0106 => Line::Exactly(
+        0x0106 => CommandRule::Exactly(
             16,
             Command::Live(LiveCommand::ToQueue(QueueCommand::DestroyAll)),
         ),
-        0x0107 => Line::Exactly(16, Command::Live(LiveCommand::ToQueue(QueueCommand::Clear))),
-        0x0108 => Line::Exactly(
+        0x0107 => CommandRule::Exactly(
+            16,
+            Command::Live(LiveCommand::ToQueue(QueueCommand::Clear)),
+        ),
+        0x0108 => CommandRule::Exactly(
             16,
             Command::Live(LiveCommand::ToQueue(QueueCommand::GetParameters)),
         ),
-        0x0109 => Line::Exactly(
+        0x0109 => CommandRule::Exactly(
             120,
             Command::Live(LiveCommand::ToQueue(QueueCommand::SetParameters)),
         ),
-        0x010A => Line::Exactly(16, Command::Live(LiveCommand::Control)),
-        0x010B => Line::Exactly(16, Command::Live(LiveCommand::Control)),
-        0x010C => Line::AtLeast(16, Command::Live(LiveCommand::Control)),
-        _ => Line::Missing,
+        0x010A => CommandRule::Exactly(16, Command::Live(LiveCommand::Control)),
+        0x010B => CommandRule::Exactly(16, Command::Live(LiveCommand::Control)),
+        0x010C => CommandRule::AtLeast(16, Command::Live(LiveCommand::Control)),
+        _ => CommandRule::Missing,
     }
 }

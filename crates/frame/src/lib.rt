@@ -47,7 +47,7 @@ const TIMESTAMP: usize = 8;
 const NUM_DATA_SIZES: usize = 16;
 
 // set_params:
-const FORMAT: usize = 4;
+const FORMAT_SENT: usize = 4;
 
 const FRAME_WIDTH: usize = 8;
 
@@ -101,7 +101,7 @@ pub fn set_good(frame: &[u8], format: u32) -> bool
     requires { ⌜ 120 ≤ length (now frame) ⌝ }
     ensures { λ r. ⌜ r ≡ goodSet format (now (frame .entry)) ⌝ }
 {
-    if field::payload_u32(frame, FORMAT) != format {
+    if field::payload_u32(frame, FORMAT_SENT) != format {
         return false;
     }
     if !extent_good(frame_width(frame)) {

@@ -2,7 +2,7 @@
 use mathlib.Core.Path.{_≡_, refl, sym, ap, ap₂, _∙_}
 use mathlib.Core.Bool.{Bool, true, false, cond, not, _&&_, _||_, and-comm, and-assoc, true≢false, false≢true}
 use mathlib.Core.Option.{Option, none, some}
-use mathlib.Core.List.{List, [], _∷_, _++_, map, append-assoc, append-nil}
+use mathlib.Core.List.{List, [], _∷_, _++_, map, append-assoc, append-nil, map-append}
 use Prim.Native.Nat.{ℕ, zero, suc, _+_, _<_, _≤_}
 use native.Mathlib.Omega.{arith}
 use native.Mathlib.Numerals.{add-one}
@@ -10,8 +10,8 @@ use lib.ListN.{length, take, drop, getD}
 use lib.Seq.{take-suc}
 use lib.Dec.{ltb, eqb}
 use borrow.Author.Tests.{eqb-true, ltb-true, ltb-false, lt-ltb, le-ltb, eqb-false, eq-eqb, ne-eqb, not-true}
-use Rattle.laws.specs.Lists.{keep, anyOf, allOf, count, isEmpty, isNone, total}
-use Rattle.laws.specs.Ascending.{below, above, insert, ascending}
+use Rattle.laws.specs.Lists.{keep, anyOf, allOf, howMany, isEmpty, isNone, total}
+use Rattle.laws.specs.Ascending.{below, notBelow, insertBy, ascending}
 use Rattle.laws.proofs.Tests.{both, and-left, and-right}
 
 -- by cases on a test
@@ -25,8 +25,8 @@ cond-elim P true a b = a refl
 cond-elim P false a b = b refl
 
 -- a number is its own equal, and unequal both ways
-pub eqb-refl : (n : ℕ) → eqb n n ≡ true
-eqb-refl n = eq-eqb n n refl
+pub eqb-same : (n : ℕ) → eqb n n ≡ true
+eqb-same n = eq-eqb n n refl
 
 pub eqb-sym : (m n : ℕ) → eqb m n ≡ false → eqb n m ≡ false
 eqb-sym m n e = ne-eqb n m (λ p. eqb-false m n e (sym p))
@@ -68,11 +68,6 @@ module _ {A : Type 0} where
 
   pub keep-comm : (p q : A → Bool) (l : List A) → keep p (keep q l) ≡ keep q (keep p l)
   keep-comm p q l = keep-keep p q l ∙ keep-ext _ _ (λ x. and-comm (q x) (p x)) l ∙ sym (keep-keep q p l)
-
--- a function on two lists
-pub map-append : {A B : Type 0} (f : A → B) (l m : List A) → map f (l ++ m) ≡ map f l ++ map f m
-map-append f [] m = refl
-map-append f (x ∷ l) m = ap (λ r. f x ∷ r) (map-append f l m)
 
 -- a second test that all of those pass, or none
 module _ {A : Type 0} where
@@ -134,17 +129,17 @@ module _ {A : Type 0} (p : A → Bool) where
     all-kept (x ∷ l) = decide (p x) (λ e. simp (e, h x e, all-kept l)) (λ e. simp (e, all-kept l))
 
   -- how many pass
-  pub count-length : (l : List A) → count p l ≡ length (keep p l)
-  count-length [] = refl
-  count-length (x ∷ l) = decide (p x) (λ e. simp e (omega (arith, count-length l))) (λ e. simp e (omega (arith, count-length l)))
+  pub howMany-length : (l : List A) → howMany p l ≡ length (keep p l)
+  howMany-length [] = refl
+  howMany-length (x ∷ l) = decide (p x) (λ e. simp e (omega (arith, howMany-length l))) (λ e. simp e (omega (arith, howMany-length l)))
 
-  pub count-append : (l m : List A) → count p (l ++ m) ≡ count p l + count p m
-  count-append [] m = omega arith
-  count-append (x ∷ l) m = omega (arith, count-append l m)
+  pub howMany-append : (l m : List A) → howMany p (l ++ m) ≡ howMany p l + howMany p m
+  howMany-append [] m = omega arith
+  howMany-append (x ∷ l) m = omega (arith, howMany-append l m)
 
-  pub count-split : (q : A → Bool) (l : List A) → count p (keep q l) + count p (keep (λ x. not (q x)) l) ≡ count p l
-  count-split q [] = refl
-  count-split q (x ∷ l) = decide (q x) (λ e. simp e (omega (arith, count-split q l))) (λ e. simp e (omega (arith, count-split q l)))
+  pub howMany-split : (q : A → Bool) (l : List A) → howMany p (keep q l) + howMany p (keep (λ x. not (q x)) l) ≡ howMany p l
+  howMany-split q [] = refl
+  howMany-split q (x ∷ l) = decide (q x) (λ e. simp e (omega (arith, howMany-split q l))) (λ e. simp e (omega (arith, howMany-split q l)))
 
   pub length-split : (l : List A) → length (keep p l) + length (keep (λ x. not (p x)) l) ≡ length l
   length-split [] = refl
@@ -173,43 +168,43 @@ module _ {A : Type 0} (key : A → ℕ) where
   unfolding below
   below-not k y h = le-ltb _ _ h
 
-  above-at : (k : ℕ) (y : A) → k ≤ key y → above key k y ≡ true
-  unfolding above
+  above-at : (k : ℕ) (y : A) → k ≤ key y → notBelow key k y ≡ true
+  unfolding notBelow
   above-at k y h = ap not (le-ltb _ _ h)
 
-  above-not : (k : ℕ) (y : A) → key y < k → above key k y ≡ false
-  unfolding above
+  above-not : (k : ℕ) (y : A) → key y < k → notBelow key k y ≡ false
+  unfolding notBelow
   above-not k y h = ap not (lt-ltb _ _ h)
 
   from-below : (k : ℕ) (y : A) → below key k y ≡ true → key y < k
   unfolding below
   from-below k y e = ltb-true _ _ e
 
-  from-above : (k : ℕ) (y : A) → above key k y ≡ true → k ≤ key y
-  unfolding above
+  from-above : (k : ℕ) (y : A) → notBelow key k y ≡ true → k ≤ key y
+  unfolding notBelow
   from-above k y e = ltb-false _ _ (not-true _ e)
 
-  insert-is : (x : A) (l : List A) → insert key x l ≡ keep (below key (key x)) l ++ x ∷ keep (above key (key x)) l
-  unfolding insert
-  insert-is x l = refl
+  insertBy-is : (x : A) (l : List A) → insertBy key x l ≡ keep (below key (key x)) l ++ x ∷ keep (notBelow key (key x)) l
+  unfolding insertBy
+  insertBy-is x l = refl
 
   below-below : (j k : ℕ) → j ≤ k → (l : List A) → keep (below key k) (keep (below key j) l) ≡ keep (below key j) l
   below-below j k h l = keep-implied _ _ (λ x e. below-at k x (omega (arith, from-below j x e))) l
 
-  above-above : (j k : ℕ) → j ≤ k → (l : List A) → keep (above key j) (keep (above key k) l) ≡ keep (above key k) l
+  above-above : (j k : ℕ) → j ≤ k → (l : List A) → keep (notBelow key j) (keep (notBelow key k) l) ≡ keep (notBelow key k) l
   above-above j k h l = keep-implied _ _ (λ x e. above-at j x (omega (arith, from-above k x e))) l
 
-  below-above : (j k : ℕ) → j ≤ k → (l : List A) → keep (below key j) (keep (above key k) l) ≡ []
+  below-above : (j k : ℕ) → j ≤ k → (l : List A) → keep (below key j) (keep (notBelow key k) l) ≡ []
   below-above j k h l = keep-excluded _ _ (λ x e. below-not j x (omega (arith, from-above k x e))) l
 
-  above-below : (j k : ℕ) → j ≤ k → (l : List A) → keep (above key k) (keep (below key j) l) ≡ []
+  above-below : (j k : ℕ) → j ≤ k → (l : List A) → keep (notBelow key k) (keep (below key j) l) ≡ []
   above-below j k h l = keep-excluded _ _ (λ x e. above-not k x (omega (arith, from-below j x e))) l
 
   -- insertions of two keys commute
-  insert-lt : (a b : A) (l : List A) → key a < key b → insert key a (insert key b l) ≡ insert key b (insert key a l)
-  insert-lt a b l h =
+  insertBy-lt : (a b : A) (l : List A) → key a < key b → insertBy key a (insertBy key b l) ≡ insertBy key b (insertBy key a l)
+  insertBy-lt a b l h =
       simp (
-        insert-is,
+        insertBy-is,
         keep-append,
         below-not (key a) b (omega arith),
         above-at (key a) b (omega arith),
@@ -219,57 +214,57 @@ module _ {A : Type 0} (key : A → ℕ) where
         above-below (key a) (key b) (omega arith) l,
         append-nil,
       )
-      (simp (keep-comm (below key (key a)) (below key (key b)) l, keep-comm (above key (key a)) (below key (key b)) l, keep-comm (above key (key a)) (above key (key b)) l, append-assoc))
+      (simp (keep-comm (below key (key a)) (below key (key b)) l, keep-comm (notBelow key (key a)) (below key (key b)) l, keep-comm (notBelow key (key a)) (notBelow key (key b)) l, append-assoc))
 
-  pub insert-comm : (a b : A) (l : List A) → eqb (key a) (key b) ≡ false → insert key a (insert key b l) ≡ insert key b (insert key a l)
-  insert-comm a b l h =
-      decide (ltb (key a) (key b)) (λ e. insert-lt a b l (ltb-true _ _ e))
-      (λ e. sym (insert-lt b a l (omega (arith, ltb-false (key a) (key b) e, eqb-false (key a) (key b) h))))
+  pub insertBy-comm : (a b : A) (l : List A) → eqb (key a) (key b) ≡ false → insertBy key a (insertBy key b l) ≡ insertBy key b (insertBy key a l)
+  insertBy-comm a b l h =
+      decide (ltb (key a) (key b)) (λ e. insertBy-lt a b l (ltb-true _ _ e))
+      (λ e. sym (insertBy-lt b a l (omega (arith, ltb-false (key a) (key b) e, eqb-false (key a) (key b) h))))
 
   -- a sorted list falls apart at each key
   abbrev Splits : List A → Type 0
-  Splits l = (k : ℕ) → keep (below key k) l ++ keep (above key k) l ≡ l
+  Splits l = (k : ℕ) → keep (below key k) l ++ keep (notBelow key k) l ≡ l
 
-  splits-keep : (q : A → Bool) (k : ℕ) (l : List A) → Splits l → keep (below key k) (keep q l) ++ keep (above key k) (keep q l) ≡ keep q l
-  splits-keep q k l h = simp (keep-comm (below key k) q l, keep-comm (above key k) q l) (sym (keep-append q (keep (below key k) l) (keep (above key k) l)) ∙ ap (keep q) (h k))
+  splits-keep : (q : A → Bool) (k : ℕ) (l : List A) → Splits l → keep (below key k) (keep q l) ++ keep (notBelow key k) (keep q l) ≡ keep q l
+  splits-keep q k l h = simp (keep-comm (below key k) q l, keep-comm (notBelow key k) q l) (sym (keep-append q (keep (below key k) l) (keep (notBelow key k) l)) ∙ ap (keep q) (h k))
 
-  splits-insert : (x : A) (l : List A) → Splits l → Splits (insert key x l)
-  splits-insert x l h k =
+  splits-insertBy : (x : A) (l : List A) → Splits l → Splits (insertBy key x l)
+  splits-insertBy x l h k =
       decide (ltb (key x) k)
       (λ e. let lt : key x < k = ltb-true _ _ e in
       simp (
-        insert-is,
+        insertBy-is,
         keep-append,
         below-at k x lt,
         above-not k x lt,
         append-assoc,
         below-below (key x) k (omega arith) l,
         above-below (key x) k (omega arith) l,
-        splits-keep (above key (key x)) k l h,
+        splits-keep (notBelow key (key x)) k l h,
       ))
       (λ e. let ge : k ≤ key x = ltb-false _ _ e in
-      simp (insert-is, keep-append, below-not k x ge, above-at k x ge, below-above k (key x) ge l, above-above k (key x) ge l, append-nil, ← append-assoc)
+      simp (insertBy-is, keep-append, below-not k x ge, above-at k x ge, below-above k (key x) ge l, above-above k (key x) ge l, append-nil, ← append-assoc)
       (simp (splits-keep (below key (key x)) k l h)))
 
   splits-ascending : (l : List A) → Splits (ascending key l)
   splits-ascending [] k = refl
-  splits-ascending (x ∷ l) k = splits-insert x (ascending key l) (splits-ascending l) k
+  splits-ascending (x ∷ l) k = splits-insertBy x (ascending key l) (splits-ascending l) k
 
   -- to pick from a sorted list is to sort what is picked
   pub keep-ascending : (p : A → Bool) (l : List A) → keep p (ascending key l) ≡ ascending key (keep p l)
   keep-ascending p [] = refl
   keep-ascending p (x ∷ l) =
       decide (p x)
-      (λ e. simp (e, insert-is, keep-append, keep-comm p (below key (key x)) (ascending key l), keep-comm p (above key (key x)) (ascending key l), keep-ascending p l))
-      (λ e. simp (e, insert-is, keep-append, keep-comm p (below key (key x)) (ascending key l), keep-comm p (above key (key x)) (ascending key l), keep-ascending p l)
+      (λ e. simp (e, insertBy-is, keep-append, keep-comm p (below key (key x)) (ascending key l), keep-comm p (notBelow key (key x)) (ascending key l), keep-ascending p l))
+      (λ e. simp (e, insertBy-is, keep-append, keep-comm p (below key (key x)) (ascending key l), keep-comm p (notBelow key (key x)) (ascending key l), keep-ascending p l)
       (splits-ascending (keep p l) (key x)))
 
 -- what a loop needs that writes a sorted list by looking for the next key: x is the only element of its key, and none lies from k up to it
 module _ {A : Type 0} (key : A → ℕ) (l : List A) where
-  only-key : (x : A) (s : List A) → keep (below key (suc (key x))) (keep (above key (key x)) s) ≡ keep (λ y. eqb (key y) (key x)) s
+  only-key : (x : A) (s : List A) → keep (below key (suc (key x))) (keep (notBelow key (key x)) s) ≡ keep (λ y. eqb (key y) (key x)) s
   only-key x s =
-      keep-keep (below key (suc (key x))) (above key (key x)) s
-      ∙ keep-ext (λ y. above key (key x) y && below key (suc (key x)) y) (λ y. eqb (key y) (key x))
+      keep-keep (below key (suc (key x))) (notBelow key (key x)) s
+      ∙ keep-ext (λ y. notBelow key (key x) y && below key (suc (key x)) y) (λ y. eqb (key y) (key x))
       (λ y. decide (eqb (key y) (key x))
       (λ e. let q = eqb-true (key y) (key x) e in simp (e, above-at key (key x) y (omega arith), below-at key (suc (key x)) y (omega arith)))
       (λ e. let q = eqb-false (key y) (key x) e in
@@ -277,22 +272,22 @@ module _ {A : Type 0} (key : A → ℕ) (l : List A) where
       (λ b. simp (e, above-not key (key x) y (ltb-true (key y) (key x) b)))
       (λ b. let ge = ltb-false (key y) (key x) b in simp (e, below-not key (suc (key x)) y (omega (arith, q)), above-at key (key x) y ge)))) s
 
-  pub ascending-next : (k : ℕ) (x : A) → k ≤ key x → keep (λ y. eqb (key y) (key x)) l ≡ x ∷ [] → keep (above key k) (keep (below key (key x)) l) ≡ []
-      → keep (above key k) (ascending key l) ≡ x ∷ keep (above key (suc (key x))) (ascending key l)
-  unfolding insert
+  pub ascending-next : (k : ℕ) (x : A) → k ≤ key x → keep (λ y. eqb (key y) (key x)) l ≡ x ∷ [] → keep (notBelow key k) (keep (below key (key x)) l) ≡ []
+      → keep (notBelow key k) (ascending key l) ≡ x ∷ keep (notBelow key (suc (key x))) (ascending key l)
+  unfolding insertBy
   ascending-next k x h only skipped =
       let i = key x in
       let s = ascending key l in
-      let low : keep (above key k) (keep (below key i) s) ≡ [] =
-      ap (keep (above key k)) (keep-ascending key (below key i) l) ∙ keep-ascending key (above key k) (keep (below key i) l) ∙ ap (ascending key) skipped in
-      let here : keep (below key (suc i)) (keep (above key i) s) ≡ x ∷ [] =
+      let low : keep (notBelow key k) (keep (below key i) s) ≡ [] =
+      ap (keep (notBelow key k)) (keep-ascending key (below key i) l) ∙ keep-ascending key (notBelow key k) (keep (below key i) l) ∙ ap (ascending key) skipped in
+      let here : keep (below key (suc i)) (keep (notBelow key i) s) ≡ x ∷ [] =
       only-key x s ∙ keep-ascending key (λ y. eqb (key y) i) l ∙ ap (ascending key) only in
-      let high : keep (above key (suc i)) (keep (above key i) s) ≡ keep (above key (suc i)) s =
-      keep-comm (above key (suc i)) (above key i) s ∙ above-above key i (suc i) (omega arith) s in
-      ap (keep (above key k)) (sym (splits-ascending key l i))
-      ∙ keep-append (above key k) (keep (below key i) s) (keep (above key i) s)
+      let high : keep (notBelow key (suc i)) (keep (notBelow key i) s) ≡ keep (notBelow key (suc i)) s =
+      keep-comm (notBelow key (suc i)) (notBelow key i) s ∙ above-above key i (suc i) (omega arith) s in
+      ap (keep (notBelow key k)) (sym (splits-ascending key l i))
+      ∙ keep-append (notBelow key k) (keep (below key i) s) (keep (notBelow key i) s)
       ∙ ap₂ (λ (a b : List A). a ++ b) low (above-above key k i h s)
-      ∙ sym (splits-keep key (above key i) (suc i) s (splits-ascending key l))
+      ∙ sym (splits-keep key (notBelow key i) (suc i) s (splits-ascending key l))
       ∙ ap₂ (λ (a b : List A). a ++ b) here high
 
 -- a function that leaves the key
@@ -301,14 +296,14 @@ module _ {A B : Type 0} (f : A → B) (key : A → ℕ) (key′ : B → ℕ) (sa
   map-keep p q h [] = refl
   map-keep p q h (x ∷ l) = decide (p x) (λ e. simp (h x, e, map-keep p q h l)) (λ e. simp (h x, e, map-keep p q h l))
 
-  pub map-insert : (x : A) (l : List A) → map f (insert key x l) ≡ insert key′ (f x) (map f l)
-  unfolding insert below above
-  map-insert x l =
+  pub map-insertBy : (x : A) (l : List A) → map f (insertBy key x l) ≡ insertBy key′ (f x) (map f l)
+  unfolding insertBy below notBelow
+  map-insertBy x l =
       simp (
         map-append,
         same x,
         map-keep (below key (key x)) (below key′ (key x)) (λ y. ap (λ n. ltb n (key x)) (same y)) l,
-        map-keep (above key (key x)) (above key′ (key x)) (λ y. ap (λ n. not (ltb n (key x))) (same y)) l,
+        map-keep (notBelow key (key x)) (notBelow key′ (key x)) (λ y. ap (λ n. not (ltb n (key x))) (same y)) l,
       )
 
 -- what passes p passes q once f is done to it
@@ -316,11 +311,11 @@ pub all-map : {A B : Type 0} (p : A → Bool) (q : B → Bool) (f : A → B) →
 all-map p q f h [] k = refl
 all-map p q f h (x ∷ l) k = both (h x (and-left (p x) (allOf p l) k)) (all-map p q f h l (and-right (p x) (allOf p l) k))
 
-pub count-map : {A B : Type 0} (p : B → Bool) (f : A → B) (l : List A) → count p (map f l) ≡ count (λ x. p (f x)) l
-count-map p f [] = refl
-count-map p f (x ∷ l) = omega (arith, count-map p f l)
+pub howMany-map : {A B : Type 0} (p : B → Bool) (f : A → B) (l : List A) → howMany p (map f l) ≡ howMany (λ x. p (f x)) l
+howMany-map p f [] = refl
+howMany-map p f (x ∷ l) = omega (arith, howMany-map p f l)
 
 -- two tests that agree where t passes count the same of what t keeps
-pub count-kept : {A : Type 0} (p q t : A → Bool) → ((x : A) → t x ≡ true → p x ≡ q x) → (l : List A) → count p (keep t l) ≡ count q (keep t l)
-count-kept p q t h [] = refl
-count-kept p q t h (x ∷ l) = decide (t x) (λ e. simp (e, h x e) (omega (arith, count-kept p q t h l))) (λ e. simp e (count-kept p q t h l))
+pub howMany-kept : {A : Type 0} (p q t : A → Bool) → ((x : A) → t x ≡ true → p x ≡ q x) → (l : List A) → howMany p (keep t l) ≡ howMany q (keep t l)
+howMany-kept p q t h [] = refl
+howMany-kept p q t h (x ∷ l) = decide (t x) (λ e. simp (e, h x e) (omega (arith, howMany-kept p q t h l))) (λ e. simp e (howMany-kept p q t h l))

@@ -5,7 +5,7 @@ use Prim.Native.Nat.{ℕ, _+_, _-_, _<_, _≤_}
 use native.Mathlib.Omega.{arith}
 use lib.ListN.{length, take, drop, getD, length-drop, length-replicate, getD-replicate, replicate-append-replicate}
 use lib.Seq.{take-at, drop-at, take-append-le, drop-append-le, take-append-add, drop-append-add}
-use Rattle.laws.specs.Parts.{part, put, zeros}
+use Rattle.laws.specs.Parts.{part, withPart, zeros}
 
 -- Zeros.
 pub zero-length : (n : ℕ) → length (zeros n) ≡ n
@@ -25,8 +25,8 @@ module _ (p m s : List ℕ) (a n : ℕ) (hp : length p ≡ a) (hm : length m ≡
   pub part-mid : part a n (p ++ (m ++ s)) ≡ m
   part-mid = rw (drop-at p (m ++ s) a hp, take-at m s n hm)
 
-  pub put-mid : (ys : List ℕ) → put a n (p ++ (m ++ s)) ys ≡ p ++ (ys ++ s)
-  put-mid ys = rw (take-at p (m ++ s) a hp, drop-at p (m ++ s) a hp, drop-at m s n hm)
+  pub withPart-mid : (ys : List ℕ) → withPart a n (p ++ (m ++ s)) ys ≡ p ++ (ys ++ s)
+  withPart-mid ys = rw (take-at p (m ++ s) a hp, drop-at p (m ++ s) a hp, drop-at m s n hm)
 
 -- A part of the first of two lists.
 module _ (x y : List ℕ) (a n : ℕ) (h : a + n ≤ length x) where
@@ -39,20 +39,20 @@ module _ (x y : List ℕ) (a n : ℕ) (h : a + n ≤ length x) where
   pub part-front : part a n (x ++ y) ≡ part a n x
   part-front = ap (take n) (drop-append-le a x y starts) ∙ take-append-le n (drop a x) y ends
 
-  pub put-front : (ys : List ℕ) → put a n (x ++ y) ys ≡ put a n x ys ++ y
-  put-front ys =
+  pub withPart-front : (ys : List ℕ) → withPart a n (x ++ y) ys ≡ withPart a n x ys ++ y
+  withPart-front ys =
       ap₂ (λ (p q : List ℕ). p ++ (ys ++ q)) (take-append-le a x y starts)
       (ap (drop n) (drop-append-le a x y starts) ∙ drop-append-le n (drop a x) y ends)
       ∙ simp append-assoc
 
 -- A part of what follows a head.
-pub put-after : (p l : List ℕ) (a b n : ℕ) (ys : List ℕ) → length p ≡ a → put (a + b) n (p ++ l) ys ≡ p ++ put b n l ys
-put-after p l a b n ys h = rw (← h) (rw (take-append-add, drop-append-add, append-assoc))
+pub withPart-after : (p l : List ℕ) (a b n : ℕ) (ys : List ℕ) → length p ≡ a → withPart (a + b) n (p ++ l) ys ≡ p ++ withPart b n l ys
+withPart-after p l a b n ys h = rw (← h) (rw (take-append-add, drop-append-add, append-assoc))
 
 pub part-after : (p l : List ℕ) (a b n : ℕ) → length p ≡ a → part (a + b) n (p ++ l) ≡ part b n l
 part-after p l a b n h = rw (← h) (rw drop-append-add)
 
 -- The k words from a to e are lent, and come back as r: what the borrower says of the part it got, where that was p, and what the lender
 -- then has.
-pub lent : (a e k : ℕ) (l p r w ys : List ℕ) → e - a ≡ k → part a k l ≡ p → put a k l r ≡ w → (part a (e - a) l ≡ p → ys ≡ r) → put a (e - a) l ys ≡ w
+pub lent : (a e k : ℕ) (l p r w ys : List ℕ) → e - a ≡ k → part a k l ≡ p → withPart a k l r ≡ w → (part a (e - a) l ≡ p → ys ≡ r) → withPart a (e - a) l ys ≡ w
 lent a e k l p r w ys n h b f = rw (f (rw n h), n) b

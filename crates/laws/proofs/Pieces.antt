@@ -10,10 +10,10 @@ use lib.ListN.{length, getD, set, take, drop, length-append, length-drop}
 use lib.Seq.{take-at, drop-at, drop-drop, take-suc}
 use Rattle.laws.specs.Lists.{allOf, same}
 use Rattle.laws.specs.Tests.{allBelow}
-use Rattle.laws.specs.Parts.{part, put, pieces, readPieces}
+use Rattle.laws.specs.Parts.{part, withPart, pieces, readPieces}
 use Rattle.laws.proofs.Tests.{and-left, and-right, all-ext, both}
 use Rattle.laws.proofs.Lists.{no-element, all-append}
-use Rattle.laws.proofs.Parts.{part-after, put-after}
+use Rattle.laws.proofs.Parts.{part-after, withPart-after}
 use Rattle.laws.proofs.Same.{same-eq, same-cut}
 
 -- of elements that pass the test p a piece has k words
@@ -34,16 +34,16 @@ module _ {A : Type 0} (f : A → List ℕ) (k : ℕ) (p : A → Bool) (len : (x 
       ∙ part-after (f x) (pieces f l) k (k * i) k (len x (and-left (p x) _ a))
       ∙ pieces-part l (and-right (p x) _ a) i d (le-of-suc-le-suc h)
 
-  pub pieces-put : (l : List A) → allOf p l ≡ true → (i : ℕ) (y : A) → i < length l → put (k * i) k (pieces f l) (f y) ≡ pieces f (set l i y)
+  pub pieces-withPart : (l : List A) → allOf p l ≡ true → (i : ℕ) (y : A) → i < length l → withPart (k * i) k (pieces f l) (f y) ≡ pieces f (set l i y)
   unfolding pieces
-  pieces-put [] a i y h = absurd (not-suc-le-zero h)
-  pieces-put (x ∷ l) a zero y h =
-      ap (λ (n : ℕ). put n k (f x ++ pieces f l) (f y)) (mul-zero k) ∙ ap (λ (w : List ℕ). f y ++ w) (drop-at (f x) (pieces f l) k (len x (and-left (p x) _ a)))
-  pieces-put (x ∷ l) a (suc i) y h =
+  pieces-withPart [] a i y h = absurd (not-suc-le-zero h)
+  pieces-withPart (x ∷ l) a zero y h =
+      ap (λ (n : ℕ). withPart n k (f x ++ pieces f l) (f y)) (mul-zero k) ∙ ap (λ (w : List ℕ). f y ++ w) (drop-at (f x) (pieces f l) k (len x (and-left (p x) _ a)))
+  pieces-withPart (x ∷ l) a (suc i) y h =
       let next : k * suc i ≡ k + k * i = omega (arith, mul-suc k i) in
-      ap (λ (n : ℕ). put n k (f x ++ pieces f l) (f y)) next
-      ∙ put-after (f x) (pieces f l) k (k * i) k (f y) (len x (and-left (p x) _ a))
-      ∙ ap (λ (w : List ℕ). f x ++ w) (pieces-put l (and-right (p x) _ a) i y (le-of-suc-le-suc h))
+      ap (λ (n : ℕ). withPart n k (f x ++ pieces f l) (f y)) next
+      ∙ withPart-after (f x) (pieces f l) k (k * i) k (f y) (len x (and-left (p x) _ a))
+      ∙ ap (λ (w : List ℕ). f x ++ w) (pieces-withPart l (and-right (p x) _ a) i y (le-of-suc-le-suc h))
 
   -- elements that are read back from their pieces one by one are read back together
   pub pieces-read : (g : List ℕ → A) → ((x : A) → p x ≡ true → g (f x) ≡ x) → (l : List A) → allOf p l ≡ true → readPieces g k (length l) (pieces f l) ≡ l

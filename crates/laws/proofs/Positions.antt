@@ -3,12 +3,12 @@ use Prim.Native.Nat.{ℕ, zero, suc, _<_}
 use native.Mathlib.Omega.{arith}
 use mathlib.Core.Path.{_≡_, refl, sym, ap, _∙_}
 use mathlib.Core.Bool.{Bool, true, false, cond}
-use mathlib.Core.Option.{Option, none, some}
+use mathlib.Core.Option.{Option, none, some, orElse}
 use mathlib.Core.List.{List, [], _∷_}
 use lib.ListN.{length, getD}
 use Rattle.laws.specs.Lists.{position, later}
-use Rattle.laws.specs.Tests.{first, orElse}
-use Rattle.laws.proofs.Tests.{first-found, first-below, first-holds}
+use Rattle.laws.specs.Tests.{lowestBelow}
+use Rattle.laws.proofs.Tests.{lowest-found, lowest-below, lowest-holds}
 
 -- what was found in a list is found one place later in a list with one element more
 pub later-some : (o : Option ℕ) (k : ℕ) → later o ≡ some k → (j : ℕ) × (o ≡ some j) × (k ≡ suc j)
@@ -25,10 +25,10 @@ position-ext p q h [] = refl
 position-ext p q h (x ∷ l) = simp (h x, position-ext p q h l)
 
 module _ {A : Type 0} (p : A → Bool) (d : A) where
-  first-front : (q : ℕ → Bool) (n : ℕ) → first (suc n) q ≡ cond (q 0) (some 0) (later (first n (λ i. q (suc i))))
-  unfolding first
-  first-front q zero = refl
-  first-front q (suc n) = ap (λ (o : Option ℕ). orElse o (cond (q (suc n)) (some (suc n)) none)) (first-front q n) ∙ of (q 0) (first n (λ i. q (suc i))) (q (suc n))
+  lowest-front : (q : ℕ → Bool) (n : ℕ) → lowestBelow (suc n) q ≡ cond (q 0) (some 0) (later (lowestBelow n (λ i. q (suc i))))
+  unfolding lowestBelow orElse
+  lowest-front q zero = refl
+  lowest-front q (suc n) = ap (λ (o : Option ℕ). orElse o (cond (q (suc n)) (some (suc n)) none)) (lowest-front q n) ∙ of (q 0) (lowestBelow n (λ i. q (suc i))) (q (suc n))
     where
       of : (a : Bool) (o : Option ℕ) (c : Bool) → orElse (cond a (some 0) (later o)) (cond c (some (suc n)) none) ≡ cond a (some 0) (later (orElse o (cond c (some n) none)))
       of true o c = refl
@@ -36,25 +36,25 @@ module _ {A : Type 0} (p : A → Bool) (d : A) where
       of false none true = refl
       of false none false = refl
 
-  position-first : (l : List A) → position p l ≡ first (length l) (λ i. p (getD l i d))
-  unfolding first
-  position-first [] = refl
-  position-first (x ∷ l) = ap (λ (o : Option ℕ). cond (p x) (some 0) (later o)) (position-first l) ∙ sym (first-front (λ i. p (getD (x ∷ l) i d)) (length l))
+  position-lowest : (l : List A) → position p l ≡ lowestBelow (length l) (λ i. p (getD l i d))
+  unfolding lowestBelow orElse
+  position-lowest [] = refl
+  position-lowest (x ∷ l) = ap (λ (o : Option ℕ). cond (p x) (some 0) (later o)) (position-lowest l) ∙ sym (lowest-front (λ i. p (getD (x ∷ l) i d)) (length l))
 
   -- a loop that looks at the places one after the other: what it found, and that it found nothing
   module _ (l : List A) (n : ℕ) (long : length l ≡ n) where
-    at-places : position p l ≡ first n (λ i. p (getD l i d))
-    at-places = position-first l ∙ ap (λ (m : ℕ). first m (λ i. p (getD l i d))) long
+    at-places : position p l ≡ lowestBelow n (λ i. p (getD l i d))
+    at-places = position-lowest l ∙ ap (λ (m : ℕ). lowestBelow m (λ i. p (getD l i d))) long
 
-    pub position-at : (i : ℕ) → i < n → first i (λ j. p (getD l j d)) ≡ none → p (getD l i d) ≡ true → position p l ≡ some i
-    position-at i h e t = at-places ∙ first-found (λ j. p (getD l j d)) n i h e t
+    pub position-at : (i : ℕ) → i < n → lowestBelow i (λ j. p (getD l j d)) ≡ none → p (getD l i d) ≡ true → position p l ≡ some i
+    position-at i h e t = at-places ∙ lowest-found (λ j. p (getD l j d)) n i h e t
 
-    pub position-none : first n (λ j. p (getD l j d)) ≡ none → position p l ≡ none
+    pub position-none : lowestBelow n (λ j. p (getD l j d)) ≡ none → position p l ≡ none
     position-none e = at-places ∙ e
 
     -- what was found is a place, and its element passes
     pub position-below : (k : ℕ) → position p l ≡ some k → k < n
-    position-below k e = first-below (λ i. p (getD l i d)) n k (sym at-places ∙ e)
+    position-below k e = lowest-below (λ i. p (getD l i d)) n k (sym at-places ∙ e)
 
     pub position-holds : (k : ℕ) → position p l ≡ some k → p (getD l k d) ≡ true
-    position-holds k e = first-holds (λ i. p (getD l i d)) n k (sym at-places ∙ e)
+    position-holds k e = lowest-holds (λ i. p (getD l i d)) n k (sym at-places ∙ e)

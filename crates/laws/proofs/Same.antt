@@ -11,13 +11,13 @@ use borrow.Author.Tests.{eqb-true}
 use Rattle.laws.specs.Lists.{same}
 use Rattle.laws.specs.Parts.{zeros}
 use Rattle.laws.proofs.Tests.{ne-true, both, and-left, and-right}
-use Rattle.laws.proofs.Lists.{eqb-refl}
+use Rattle.laws.proofs.Lists.{eqb-same}
 use Rattle.laws.proofs.Parts.{zero-length, zero-at}
 
 pub same-refl : (a : List ℕ) → same a a ≡ true
 unfolding same
 same-refl [] = refl
-same-refl (x ∷ xs) = both (eqb-refl x) (same-refl xs)
+same-refl (x ∷ xs) = both (eqb-same x) (same-refl xs)
 
 pub same-true : (a b : List ℕ) → same a b ≡ true → a ≡ b
 unfolding same

@@ -7,7 +7,7 @@ use native.Mathlib.Numerals.{add-one}
 use native.Mathlib.Omega.{arith}
 use lib.ListN.{length, getD, take, drop, set, length-append, length-drop}
 use lib.Seq.{sets, sets-eq, length-sets, take-all, drop-drop, length-take-le, take-suc, drop-length}
-use Rattle.laws.specs.Parts.{part, put}
+use Rattle.laws.specs.Parts.{part, withPart}
 use Rattle.laws.specs.Stores.{Wrote}
 use Rattle.laws.proofs.Parts.{part-mid}
 
@@ -31,16 +31,16 @@ sets-four d i k l m a b c e x y z p q r s =
     (simp append-assoc))))
 
 -- the rest of a list, as a part that starts in the middle
-pub rest : (k : ℕ) (s : List ℕ) → take (length s - k) (drop k s) ≡ drop k s
-rest k s = take-all (length s - k) (drop k s) (rw length-drop (omega arith))
+pub rest-part : (k : ℕ) (s : List ℕ) → take (length s - k) (drop k s) ≡ drop k s
+rest-part k s = take-all (length s - k) (drop k s) (rw length-drop (omega arith))
 
 -- a run of stores that fits is another part, and what was stored is there
 module _ (d xs : List ℕ) (i : ℕ) (fits : i + length xs ≤ length d) where
-  pub sets-put : sets d i xs ≡ put i (length xs) d xs
-  sets-put = sets-eq xs d i fits ∙ simp (append-assoc, drop-drop)
+  pub sets-withPart : sets d i xs ≡ withPart i (length xs) d xs
+  sets-withPart = sets-eq xs d i fits ∙ simp (append-assoc, drop-drop)
 
   pub part-sets : part i (length xs) (sets d i xs) ≡ xs
-  part-sets = rw sets-put (part-mid (take i d) xs (drop (length xs) (drop i d)) i (length xs) (length-take-le i d (omega arith)) refl)
+  part-sets = rw sets-withPart (part-mid (take i d) xs (drop (length xs) (drop i d)) i (length xs) (length-take-le i d (omega arith)) refl)
 
 pub take-sets : (d xs : List ℕ) → length xs ≤ length d → take (length xs) (sets d 0 xs) ≡ xs
 take-sets d xs h = part-sets d xs 0 (rw zero-add h)
@@ -69,13 +69,13 @@ sets-take d at i xs h =
 
 -- a run of stores as long as the list is all that is left of it
 pub sets-whole : (d xs : List ℕ) → length xs ≡ length d → sets d 0 xs ≡ xs
-sets-whole d xs h = sets-put d xs 0 (omega arith) ∙ rw (h, drop-length d) (append-nil xs)
+sets-whole d xs h = sets-withPart d xs 0 (omega arith) ∙ rw (h, drop-length d) (append-nil xs)
 
 -- five words are stored one after the other
-pub five-stored : (l : List ℕ) (at a b c d e : ℕ) → at + 5 ≤ length l → set (set (set (set (set l at a) (at + 1) b) (at + 2) c) (at + 3) d) (at + 4) e ≡ put at 5 l (a ∷ b ∷ c ∷ d ∷ e ∷ [])
+pub five-stored : (l : List ℕ) (at a b c d e : ℕ) → at + 5 ≤ length l → set (set (set (set (set l at a) (at + 1) b) (at + 2) c) (at + 3) d) (at + 4) e ≡ withPart at 5 l (a ∷ b ∷ c ∷ d ∷ e ∷ [])
 five-stored l at a b c d e h =
     let n₁ : at + 1 ≡ suc at = omega arith in
     let n₂ : at + 2 ≡ suc (suc at) = omega arith in
     let n₃ : at + 3 ≡ suc (suc (suc at)) = omega arith in
     let n₄ : at + 4 ≡ suc (suc (suc (suc at))) = omega arith in
-    rw (n₁, n₂, n₃, n₄) (sets-put l (a ∷ b ∷ c ∷ d ∷ e ∷ []) at h)
+    rw (n₁, n₂, n₃, n₄) (sets-withPart l (a ∷ b ∷ c ∷ d ∷ e ∷ []) at h)

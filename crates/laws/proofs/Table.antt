@@ -1,4 +1,4 @@
--- A rule of a table, proved at all of its entries by one test that antt computes, one entry after the other.
+-- A rule of a table, proved at all of its elements by one test that antt computes, one element after the other.
 use mathlib.Core.Path.{_≡_, _∙_, subst, sym}
 use mathlib.Core.Bool.{Bool, true, false, _&&_}
 use mathlib.Core.List.{List, [], _∷_}
@@ -15,24 +15,24 @@ both-right : (a b : Bool) → T (a && b) → T b
 both-right true b t = t
 both-right false b t = absurd t
 
--- the test f passes at each entry of the list and its place, counted from i
+-- the test f passes at each element of the list and its place, counted from i
 abbrev pub every : (ℕ → ℕ → Bool) → ℕ → List ℕ → Bool
 every f i [] = true
 every f i (x ∷ xs) = f i x && every f (suc i) xs
 
-from : (f : ℕ → ℕ → Bool) (xs : List ℕ) (i : ℕ) → T (every f i xs) → (k : ℕ) → k < length xs → T (f (i + k) (getD xs k 0))
-from f [] i t k h = absurd (not-suc-le-zero h)
-from f (x ∷ xs) i t zero h = subst (λ (m : ℕ). T (f m x)) (sym (add-zero i)) (both-left (f i x) (every f (suc i) xs) t)
-from f (x ∷ xs) i t (suc k) h =
+every-from : (f : ℕ → ℕ → Bool) (xs : List ℕ) (i : ℕ) → T (every f i xs) → (k : ℕ) → k < length xs → T (f (i + k) (getD xs k 0))
+every-from f [] i t k h = absurd (not-suc-le-zero h)
+every-from f (x ∷ xs) i t zero h = subst (λ (m : ℕ). T (f m x)) (sym (add-zero i)) (both-left (f i x) (every f (suc i) xs) t)
+every-from f (x ∷ xs) i t (suc k) h =
     subst (λ (m : ℕ). T (f m (getD xs k 0))) (suc-add i k ∙ sym (add-suc i k))
-    (from f xs (suc i) (both-right (f i x) (every f (suc i) xs) t) k (le-of-suc-le-suc h))
+    (every-from f xs (suc i) (both-right (f i x) (every f (suc i) xs) t) k (le-of-suc-le-suc h))
 
-pub at : (f : ℕ → ℕ → Bool) (xs : List ℕ) → T (every f 0 xs) → (k : ℕ) → k < length xs → T (f k (getD xs k 0))
-at f xs t k h = subst (λ (m : ℕ). T (f m (getD xs k 0))) (zero-add k) (from f xs 0 t k h)
+pub every-at : (f : ℕ → ℕ → Bool) (xs : List ℕ) → T (every f 0 xs) → (k : ℕ) → k < length xs → T (f k (getD xs k 0))
+every-at f xs t k h = subst (λ (m : ℕ). T (f m (getD xs k 0))) (zero-add k) (every-from f xs 0 t k h)
 
--- a table whose every entry is what f gives at its place
-abbrev pub right : (ℕ → ℕ) → ℕ → ℕ → Bool
-right f k x = eqb x (f k)
+-- a table whose every element is what f gives at its place
+abbrev pub matches : (ℕ → ℕ) → ℕ → ℕ → Bool
+matches f k x = eqb x (f k)
 
-pub entry : (f : ℕ → ℕ) (xs : List ℕ) → T (every (right f) 0 xs) → (k : ℕ) → k < length xs → getD xs k 0 ≡ f k
-entry f xs t k h = eqb→eq (getD xs k 0) (f k) (at (right f) xs t k h)
+pub table-rule : (f : ℕ → ℕ) (xs : List ℕ) → T (every (matches f) 0 xs) → (k : ℕ) → k < length xs → getD xs k 0 ≡ f k
+table-rule f xs t k h = eqb→eq (getD xs k 0) (f k) (every-at (matches f) xs t k h)

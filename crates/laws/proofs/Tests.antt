@@ -1,14 +1,14 @@
 -- Laws of tests: both of two, of numbers, and of the bounded tests in the form that a loop which counts up wants (nothing yet, one more, the way out).
 use mathlib.Core.Path.{_≡_, refl, sym, _∙_}
 use mathlib.Core.Bool.{Bool, true, false, not, _&&_, _||_, and-false, and-eq-true-iff, true≢false, false≢true}
-use mathlib.Core.Option.{Option, none, some}
+use mathlib.Core.Option.{Option, none, some, orElse}
 use Prim.Native.Nat.{ℕ, zero, suc, _+_, _≤_, _<_}
 use native.Mathlib.Numerals.{add-one}
 use native.Mathlib.Decide.{le-ind}
 use native.Mathlib.Omega.{arith}
 use lib.Dec.{leb, ltb, eqb}
 use borrow.Author.Tests.{le-leb, lt-leb, leb-true, le-ltb, ltb-false, eq-eqb, ne-eqb, not-true, not-false}
-use Rattle.laws.specs.Tests.{within, allBelow, first}
+use Rattle.laws.specs.Tests.{within, allBelow, lowestBelow}
 
 -- a test is not true and false
 pub never : {P : Type 0} → _≡_ {A = Bool} true false → P
@@ -49,11 +49,11 @@ pub and-holds : (a b r : Bool) → a ≡ true → r ≡ b → r ≡ a && b
 and-holds a b r e h = rw e h
 
 -- what a callee tested, where the code goes on by its negation
-pub passed : {r t : Bool} → r ≡ t → not r ≡ false → t ≡ true
-passed {r} p q = sym p ∙ not-false r q
+pub was-true : {r t : Bool} → r ≡ t → not r ≡ false → t ≡ true
+was-true {r} p q = sym p ∙ not-false r q
 
-pub refused : {r t : Bool} → r ≡ t → not r ≡ true → t ≡ false
-refused {r} p q = sym p ∙ not-true r q
+pub was-false : {r t : Bool} → r ≡ t → not r ≡ true → t ≡ false
+was-false {r} p q = sym p ∙ not-true r q
 
 -- what the code tested of the number r, which is n
 pub same-test : {r n m : ℕ} → r ≡ n → r ≡ m → eqb n m ≡ true
@@ -102,41 +102,41 @@ module _ (x lo hi : ℕ) where
 
 -- the lowest number that passes
 module _ (p : ℕ → Bool) where
-  pub first-none : first 0 p ≡ none
-  unfolding first
-  first-none = refl
+  pub lowest-none : lowestBelow 0 p ≡ none
+  unfolding lowestBelow orElse
+  lowest-none = refl
 
-  pub first-more : (i : ℕ) → first i p ≡ none → p i ≡ false → first (i + 1) p ≡ none
-  unfolding first
-  first-more i h e = rw (add-one i) (rw (h, e))
+  pub lowest-more : (i : ℕ) → lowestBelow i p ≡ none → p i ≡ false → lowestBelow (i + 1) p ≡ none
+  unfolding lowestBelow orElse
+  lowest-more i h e = rw (add-one i) (rw (h, e))
 
-  first-hit : (i : ℕ) → first i p ≡ none → p i ≡ true → first (suc i) p ≡ some i
-  unfolding first
-  first-hit i h e = rw (h, e)
+  lowest-hit : (i : ℕ) → lowestBelow i p ≡ none → p i ≡ true → lowestBelow (suc i) p ≡ some i
+  unfolding lowestBelow orElse
+  lowest-hit i h e = rw (h, e)
 
-  first-on : (i n : ℕ) → first n p ≡ some i → first (suc n) p ≡ some i
-  unfolding first
-  first-on i n h = rw h
+  lowest-on : (i n : ℕ) → lowestBelow n p ≡ some i → lowestBelow (suc n) p ≡ some i
+  unfolding lowestBelow orElse
+  lowest-on i n h = rw h
 
-  pub first-found : (n i : ℕ) → i < n → first i p ≡ none → p i ≡ true → first n p ≡ some i
-  first-found n i h e t = le-ind (λ (m : ℕ). first m p ≡ some i) (first-hit i e t) (λ m _ r. first-on i m r) n h
+  pub lowest-found : (n i : ℕ) → i < n → lowestBelow i p ≡ none → p i ≡ true → lowestBelow n p ≡ some i
+  lowest-found n i h e t = le-ind (λ (m : ℕ). lowestBelow m p ≡ some i) (lowest-hit i e t) (λ m _ r. lowest-on i m r) n h
 
-  found : (n k : ℕ) → first n p ≡ some k → (k < n) × (p k ≡ true)
-  unfolding first
+  found : (n k : ℕ) → lowestBelow n p ≡ some k → (k < n) × (p k ≡ true)
+  unfolding lowestBelow orElse
   found zero k e = absurd (let z : _≡_ {A = ℕ} 0 1 = cc in omega arith)
-  found (suc n) k e = go (first n p) refl (p n) refl (found n k)
+  found (suc n) k e = go (lowestBelow n p) refl (p n) refl (found n k)
     where
-      go : (r : Option ℕ) → first n p ≡ r → (b : Bool) → p n ≡ b → (first n p ≡ some k → (k < n) × (p k ≡ true)) → (k < suc n) × (p k ≡ true)
+      go : (r : Option ℕ) → lowestBelow n p ≡ r → (b : Bool) → p n ≡ b → (lowestBelow n p ≡ some k → (k < n) × (p k ≡ true)) → (k < suc n) × (p k ≡ true)
       go (some j) h b g ih = let w = ih (h ∙ (rw h at e)) in (omega arith, w .1)
       go none h true g ih = let m : n ≡ k = let w : some n ≡ some k = rw (h, g) at e in cc in (omega arith, rw (← m) g)
       go none h false g ih = absurd (let z : _≡_ {A = ℕ} 0 1 = let w : none ≡ some k = rw (h, g) at e in cc in omega arith)
 
   -- what was found lies below the bound and passes the test
-  pub first-below : (n k : ℕ) → first n p ≡ some k → k < n
-  first-below n k e = found n k e .0
+  pub lowest-below : (n k : ℕ) → lowestBelow n p ≡ some k → k < n
+  lowest-below n k e = found n k e .0
 
-  pub first-holds : (n k : ℕ) → first n p ≡ some k → p k ≡ true
-  first-holds n k e = found n k e .1
+  pub lowest-holds : (n k : ℕ) → lowestBelow n p ≡ some k → p k ≡ true
+  lowest-holds n k e = found n k e .1
 
 -- p holds at each number below a bound
 module _ (p : ℕ → Bool) where
@@ -167,10 +167,10 @@ all-ext p q zero h = refl
 all-ext p q (suc n) h = rw (all-ext p q n (λ i l. h i (omega arith)), h n (omega arith))
 
 -- two tests at each number below the bound
-pub all-both : (p q : ℕ → Bool) (n : ℕ) → allBelow n (λ i. p i && q i) ≡ allBelow n p && allBelow n q
+pub below-both : (p q : ℕ → Bool) (n : ℕ) → allBelow n (λ i. p i && q i) ≡ allBelow n p && allBelow n q
 unfolding allBelow
-all-both p q zero = refl
-all-both p q (suc n) = rw (all-both p q n) (turned (allBelow n p) (allBelow n q) (p n) (q n))
+below-both p q zero = refl
+below-both p q (suc n) = rw (below-both p q n) (turned (allBelow n p) (allBelow n q) (p n) (q n))
   where
     turned : (a b c d : Bool) → (a && b) && (c && d) ≡ (a && c) && (b && d)
     turned false b c d = refl

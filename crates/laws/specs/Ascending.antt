@@ -11,17 +11,17 @@ module _ {A : Type 0} where
   below key k y = ltb (key y) k
 
   -- the key of y is not below k
-  unfoldable pub above : (A → ℕ) → ℕ → A → Bool
-  above key k y = not (ltb (key y) k)
+  unfoldable pub notBelow : (A → ℕ) → ℕ → A → Bool
+  notBelow key k y = not (ltb (key y) k)
 
   -- x after the elements with a key below its own and before all others
-  unfoldable pub insert : (A → ℕ) → A → List A → List A
-  insert key x xs = keep (below key (key x)) xs ++ x ∷ keep (above key (key x)) xs
+  unfoldable pub insertBy : (A → ℕ) → A → List A → List A
+  insertBy key x xs = keep (below key (key x)) xs ++ x ∷ keep (notBelow key (key x)) xs
 
   -- the elements by ascending key: each is inserted into the others, sorted
   abbrev pub ascending : (A → ℕ) → List A → List A
   ascending key [] = []
-  ascending key (x ∷ xs) = insert key x (ascending key xs)
+  ascending key (x ∷ xs) = insertBy key x (ascending key xs)
 
   -- no key is above one that stands after it
   abbrev pub sorted : (A → ℕ) → List A → Bool

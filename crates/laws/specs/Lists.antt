@@ -22,9 +22,9 @@ module _ {A : Type 0} where
   allOf p (x ∷ xs) = p x && allOf p xs
 
   -- how many elements pass a test
-  abbrev pub count : (A → Bool) → List A → ℕ
-  count p [] = 0
-  count p (x ∷ xs) = cond (p x) 1 0 + count p xs
+  abbrev pub howMany : (A → Bool) → List A → ℕ
+  howMany p [] = 0
+  howMany p (x ∷ xs) = cond (p x) 1 0 + howMany p xs
 
   -- there is no element
   abbrev pub isEmpty : List A → Bool

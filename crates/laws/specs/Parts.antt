@@ -8,8 +8,8 @@ abbrev pub part : ℕ → ℕ → List ℕ → List ℕ
 part a n l = take n (drop a l)
 
 -- l with ys for the n elements from a
-abbrev pub put : ℕ → ℕ → List ℕ → List ℕ → List ℕ
-put a n l ys = take a l ++ (ys ++ drop n (drop a l))
+abbrev pub withPart : ℕ → ℕ → List ℕ → List ℕ → List ℕ
+withPart a n l ys = take a l ++ (ys ++ drop n (drop a l))
 
 -- n zeros. A name of its own keeps a long run of them from being written out wherever it stands.
 unfoldable pub zeros : ℕ → List ℕ

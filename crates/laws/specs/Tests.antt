@@ -1,7 +1,7 @@
 -- Tests on a number, and on every number below a bound.
 use Prim.Native.Nat.{ℕ, zero, suc}
 use mathlib.Core.Bool.{Bool, true, cond, _&&_}
-use mathlib.Core.Option.{Option, none, some}
+use mathlib.Core.Option.{Option, none, some, orElse}
 use lib.Dec.{leb}
 
 -- x lies from lo to hi, both included
@@ -13,12 +13,7 @@ unfoldable pub allBelow : ℕ → (ℕ → Bool) → Bool
 allBelow zero p = true
 allBelow (suc n) p = allBelow n p && p n
 
--- the first value where there is one, and otherwise the second
-abbrev pub orElse : Option ℕ → Option ℕ → Option ℕ
-orElse none b = b
-orElse (some a) b = some a
-
 -- the lowest number below n at which p holds, where there is one
-unfoldable pub first : ℕ → (ℕ → Bool) → Option ℕ
-first zero p = none
-first (suc n) p = orElse (first n p) (cond (p n) (some n) none)
+unfoldable pub lowestBelow : ℕ → (ℕ → Bool) → Option ℕ
+lowestBelow zero p = none
+lowestBelow (suc n) p = orElse (lowestBelow n p) (cond (p n) (some n) none)

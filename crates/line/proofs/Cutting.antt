@@ -15,7 +15,7 @@ use Rattle.laws.proofs.Lists.{decide, all-append}
 use Rattle.model.specs.Tables.{Layout}
 use Rattle.line.specs.Hex.{isHex}
 use Rattle.line.specs.Line.{Line, lineOf}
-use Rattle.line.specs.Split.{before, linesIn, lineRoom, kept, lineEnd, split}
+use Rattle.line.specs.Split.{prefixed, linesIn, lineRoom, kept, lineEnd, split}
 use Rattle.line.specs.Log.{onLine, lineStep, linesOutput, logOutput}
 use Rattle.line.specs.Reading.{Reader, Call, stepDone, onPiece, lastStep, atEnd, start, callsOutput, usedOf, allUsed, offersIn, offers, allOffers}
 use Rattle.line.specs.Promises.{OverLong, KeptDecides, UsesSome, AnyCalls, AnyCutting}
@@ -80,7 +80,7 @@ unfolding linesIn
 lines-ended [] s h = refl
 lines-ended (b ∷ l) s h =
     rw (not-true (eqb b 10) (and-left (not (eqb b 10)) (noTen l) h))
-    (ap (before b) (lines-ended l s (and-right (not (eqb b 10)) (noTen l) h)))
+    (ap (prefixed b) (lines-ended l s (and-right (not (eqb b 10)) (noTen l) h)))
 
 -- the last line counts unless it is empty
 lines-last : (l : List ℕ) → noTen l ≡ true → linesIn l ≡ cond (isEmpty l) [] (l ∷ [])
@@ -88,9 +88,9 @@ unfolding linesIn
 lines-last [] h = refl
 lines-last (b ∷ l) h =
     rw (not-true (eqb b 10) (and-left (not (eqb b 10)) (noTen l) h))
-    (ap (before b) (lines-last l (and-right (not (eqb b 10)) (noTen l) h)) ∙ one l)
+    (ap (prefixed b) (lines-last l (and-right (not (eqb b 10)) (noTen l) h)) ∙ one l)
   where
-    one : (l : List ℕ) → before b (cond (isEmpty l) [] (l ∷ [])) ≡ (b ∷ l) ∷ []
+    one : (l : List ℕ) → prefixed b (cond (isEmpty l) [] (l ∷ [])) ≡ (b ∷ l) ∷ []
     one [] = refl
     one (x ∷ l) = refl
 
@@ -118,10 +118,10 @@ module _ (L : Layout) (t line piece : List ℕ) where
     all-of : take (lineEnd piece) piece ≡ piece
     all-of = take-all (lineEnd piece) piece (ltb-false (lineEnd piece) (length piece) e)
 
-    call-open : onPiece L reader piece ≡ record { used = lineEnd piece; output = []; reader = record { table = t; line = kept (line ++ piece) } }
+    call-open : onPiece L reader piece ≡ record { used = lineEnd piece; text = []; reader = record { table = t; line = kept (line ++ piece) } }
     unfolding onPiece split
     call-open =
-        rw e (ap (λ (l : List ℕ). record { used = lineEnd piece; output = []; reader = record { table = t; line = l } }) (keep-more line (take (lineEnd piece) piece) ∙ ap (λ (s : List ℕ). kept (line ++ s)) all-of))
+        rw e (ap (λ (l : List ℕ). record { used = lineEnd piece; text = []; reader = record { table = t; line = l } }) (keep-more line (take (lineEnd piece) piece) ∙ ap (λ (s : List ℕ). kept (line ++ s)) all-of))
 
     used-open : usedOf piece ≡ piece
     unfolding usedOf split
@@ -134,25 +134,25 @@ unfolding kept
 kept-none = refl
 
 module _ (L : Layout) (t : List ℕ) where
-  end-empty : atEnd L (record { table = t; line = kept [] }) ≡ linesOutput L t []
+  rest-empty : atEnd L (record { table = t; line = kept [] }) ≡ linesOutput L t []
   unfolding lastStep kept linesOutput
-  end-empty = refl
+  rest-empty = refl
 
-  end-line : (b : ℕ) (l : List ℕ) → atEnd L (record { table = t; line = kept (b ∷ l) }) ≡ linesOutput L t ((b ∷ l) ∷ [])
+  rest-line : (b : ℕ) (l : List ℕ) → atEnd L (record { table = t; line = kept (b ∷ l) }) ≡ linesOutput L t ((b ∷ l) ∷ [])
   unfolding lastStep kept linesOutput lineStep
-  end-line b l = ap (λ (x : Line). onLine L t x .output) (kept-decides (b ∷ l)) ∙ sym (append-nil (onLine L t (lineOf (b ∷ l)) .output))
+  rest-line b l = ap (λ (x : Line). onLine L t x .text) (kept-decides (b ∷ l)) ∙ sym (append-nil (onLine L t (lineOf (b ∷ l)) .text))
 
 module _ (L : Layout) where
-  last : (t line : List ℕ) → noTen line ≡ true → atEnd L (record { table = t; line = kept line }) ≡ linesOutput L t (linesIn line)
-  last t line h = of line h ∙ ap (linesOutput L t) (sym (lines-last line h))
+  at-last : (t line : List ℕ) → noTen line ≡ true → atEnd L (record { table = t; line = kept line }) ≡ linesOutput L t (linesIn line)
+  at-last t line h = of line h ∙ ap (linesOutput L t) (sym (lines-last line h))
     where
       of : (line : List ℕ) → noTen line ≡ true → atEnd L (record { table = t; line = kept line }) ≡ linesOutput L t (cond (isEmpty line) [] (line ∷ []))
-      of [] h = end-empty L t
-      of (b ∷ l) h = end-line L t b l
+      of [] h = rest-empty L t
+      of (b ∷ l) h = rest-line L t b l
 
   calls-are : (t line : List ℕ) (ps : List (List ℕ)) → noTen line ≡ true → callsOutput L (record { table = t; line = kept line }) ps ≡ linesOutput L t (linesIn (line ++ allUsed ps))
   unfolding callsOutput pieces linesOutput
-  calls-are t line [] h = last t line h ∙ ap (λ (l : List ℕ). linesOutput L t (linesIn l)) (sym (append-nil line))
+  calls-are t line [] h = at-last t line h ∙ ap (λ (l : List ℕ). linesOutput L t (linesIn l)) (sym (append-nil line))
   calls-are t line (p ∷ ps) h =
       decide (ltb (lineEnd p) (length p))
       (λ e. let here = line ++ take (lineEnd p) p in
@@ -163,13 +163,13 @@ module _ (L : Layout) where
       ap (λ (u : List ℕ). linesIn (line ++ (u ++ more))) (used-ended L t line p e)
       ∙ ap linesIn (simp append-assoc)
       ∙ lines-ended here more clean in
-      ap (λ (c : Call). c .output ++ callsOutput L (c .reader) ps) (call-ended L t line p e)
-      ∙ ap (λ (o : List ℕ). s .output ++ o) (ap (λ (l : List ℕ). callsOutput L (record { table = s .table; line = l }) ps) (sym kept-none) ∙ calls-are (s .table) [] ps refl)
+      ap (λ (c : Call). c .text ++ callsOutput L (c .reader) ps) (call-ended L t line p e)
+      ∙ ap (λ (o : List ℕ). s .text ++ o) (ap (λ (l : List ℕ). callsOutput L (record { table = s .table; line = l }) ps) (sym kept-none) ∙ calls-are (s .table) [] ps refl)
       ∙ ap (linesOutput L t) (sym lines))
       (λ e.
       let clean : noTen (line ++ p) ≡ true =
       all-append (λ b. not (eqb b 10)) line p ∙ both h (ap noTen (sym (all-of L t line p e)) ∙ end-clean p) in
-      ap (λ (c : Call). c .output ++ callsOutput L (c .reader) ps) (call-open L t line p e)
+      ap (λ (c : Call). c .text ++ callsOutput L (c .reader) ps) (call-open L t line p e)
       ∙ calls-are t (line ++ p) ps clean
       ∙ ap (λ (l : List ℕ). linesOutput L t (linesIn l)) (append-assoc line p (allUsed ps) ∙ ap (λ (u : List ℕ). line ++ (u ++ allUsed ps)) (sym (used-open L t line p e))))
 

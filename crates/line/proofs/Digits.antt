@@ -19,8 +19,8 @@ use Rattle.line.specs.Hex.{digitOf, isDigit, isHex, hexBytes, hexPair, h
 double : (n : ℕ) → 2 * suc n ≡ suc (suc (2 * n))
 double n = omega (arith, mul-suc 2 n)
 
-add-two : (n : ℕ) → n + 2 ≡ suc (suc n)
-add-two n = omega arith
+two-more : (n : ℕ) → n + 2 ≡ suc (suc n)
+two-more n = omega arith
 
 pub length-bytes : (s : List ℕ) → length (hexBytes s) ≡ length s / 2
 unfolding hexBytes
@@ -105,7 +105,7 @@ module _ (s : List ℕ) (i : ℕ) where
 
   left-two : i + 1 < length s → isHex (drop i s) ≡ (isDigit (getD s i 0) && (isDigit (getD s (i + 1) 0) && isHex (drop (i + 2) s)))
   unfolding isHex
-  left-two h = rw (drop-cons s i 0 (omega arith), drop-cons s (suc i) 0 (omega arith), add-one i, add-two i)
+  left-two h = rw (drop-cons s i 0 (omega arith), drop-cons s (suc i) 0 (omega arith), add-one i, two-more i)
 
   pub left-low : i + 1 < length s → 16 ≤ digitOf (getD s i 0) → isHex (drop i s) ≡ false
   left-low h b = rw (left-two h, le-ltb (digitOf (getD s i 0)) 16 b)

@@ -12,13 +12,13 @@ use Rattle.laws.specs.Lists.{allOf}
 use Rattle.laws.specs.Parts.{pieces}
 use Rattle.laws.proofs.Tests.{both, and-left, and-right, within-true}
 use Rattle.laws.proofs.Lists.{all-append}
-use Rattle.laws.proofs.Table.{entry}
+use Rattle.laws.proofs.Table.{table-rule}
 use Rattle.field.specs.Field.{field, littleEndian}
 use Rattle.field.proofs.Laws.{field-after, field-back, littleEndian-bytes}
 use Rattle.model.specs.Steps.{Act, command, finish, drained}
 use Rattle.model.specs.WellFormed.{u8, u32, u64, goodAct}
 use Rattle.line.specs.Hex.{digitOf, isHex, hexBytes, lowerDigit, hexPair, hexText}
-use Rattle.line.specs.Line.{step, commandIn, finishIn, drainedIn, frameIn}
+use Rattle.line.specs.Line.{stepLine, commandIn, finishIn, drainedIn, frameIn}
 use Rattle.line.specs.Promises.{frameBytes, EveryStep}
 use Rattle.line.proofs.Frames.{line-hex}
 
@@ -29,7 +29,7 @@ below16 = 0 ∷ 1 ∷ 2 ∷ 3 ∷ 4 ∷ 5 ∷ 6 ∷ 7 ∷ 8 ∷ 9 ∷ 10 ∷ 11 
 
 digit-back : (n : ℕ) → n < 16 → digitOf (lowerDigit n) ≡ n
 unfolding below16 digitOf lowerDigit within
-digit-back n h = sym (entry (λ k. digitOf (lowerDigit k)) below16 tt n h) ∙ entry (λ k. k) below16 tt n h
+digit-back n h = sym (table-rule (λ k. digitOf (lowerDigit k)) below16 tt n h) ∙ table-rule (λ k. k) below16 tt n h
 
 text-hex : (s : List ℕ) → allOf (λ b. ltb b 256) s ≡ true → isHex (hexText s) ≡ true
 unfolding isHex pieces hexPair
@@ -69,11 +69,11 @@ frame-small (command t f) g = bytes-of 4 t f (and-right (u32 t) _ g)
 frame-small (finish n q r f t) g = bytes-of 4 n _ (bytes-of 4 q _ (bytes-of 4 r _ (bytes-of 4 f (littleEndian 8 t) (littleEndian-bytes 8 t))))
 frame-small (drained n) g = littleEndian-bytes 4 n
 
-frame-back : (a : Act) → goodAct a ≡ true → length (frameBytes a) ≤ 4189 → frameIn (frameBytes a) ≡ step a
+frame-back : (a : Act) → goodAct a ≡ true → length (frameBytes a) ≤ 4189 → frameIn (frameBytes a) ≡ stepLine a
 unfolding frameIn commandIn finishIn drainedIn littleEndian
 frame-back (command t f) g h =
     rw (within-true (length (frameBytes (command t f))) 5 4189 (omega arith) h)
-    (ap (λ (n : ℕ). step (command n f)) (number-back 4 (0x00 ∷ []) t f (small32 t (and-left (u32 t) _ g))))
+    (ap (λ (n : ℕ). stepLine (command n f)) (number-back 4 (0x00 ∷ []) t f (small32 t (and-left (u32 t) _ g))))
 frame-back (finish n q r f t) g h =
     let w = littleEndian 4 in
     let stamp = littleEndian 8 t in
@@ -85,8 +85,8 @@ frame-back (finish n q r f t) g h =
     let is-r = number-back 4 (0x01 ∷ (w n ++ w q)) r (w f ++ stamp) (small32 r (and-left (u32 r) _ after-q)) in
     let is-f = number-back 4 (0x01 ∷ (w n ++ (w q ++ w r))) f stamp (small32 f (and-left (u32 f) _ after-r)) in
     let is-t = number-back 8 (0x01 ∷ (w n ++ (w q ++ (w r ++ w f)))) t [] (small64 t (and-right (u32 f) _ after-r)) in
-    λ i. step (finish (is-n i) (is-q i) (is-r i) (is-f i) (is-t i))
-frame-back (drained n) g h = ap (λ (k : ℕ). step (drained k)) (number-back 4 (0x02 ∷ []) n [] (small32 n g))
+    λ i. stepLine (finish (is-n i) (is-q i) (is-r i) (is-f i) (is-t i))
+frame-back (drained n) g h = ap (λ (k : ℕ). stepLine (drained k)) (number-back 4 (0x02 ∷ []) n [] (small32 n g))
 
 pub every-step : EveryStep
 every-step a g h =

@@ -11,12 +11,12 @@ use borrow.Author.Tests.{eq-eqb, ne-eqb}
 use Rattle.laws.specs.Tests.{within}
 use Rattle.laws.proofs.Tests.{within-true, within-below, within-above}
 use Rattle.laws.proofs.Lists.{decide}
-use Rattle.laws.proofs.Stores.{rest, take-sets, sets-whole}
+use Rattle.laws.proofs.Stores.{rest-part, take-sets, sets-whole}
 use Rattle.field.specs.Field.{field}
 use Rattle.field.proofs.Laws.{field-part}
 use Rattle.model.specs.Steps.{command, finish, drained}
 use Rattle.line.specs.Hex.{isHex, hexBytes}
-use Rattle.line.specs.Line.{Line, step, noFrame, commandIn, finishIn, drainedIn, frameIn, lineOf, commandBytes}
+use Rattle.line.specs.Line.{Line, stepLine, noFrame, commandIn, finishIn, drainedIn, frameIn, lineOf, commandBytes}
 use Rattle.line.proofs.Digits.{length-bytes, bytes-drop, bytes-take, hex-even}
 
 -- By the first byte
@@ -104,20 +104,20 @@ array-is d line bytes h e = e ∙ sets-whole d (hexBytes line) (omega (arith, le
 
 pub finish-read : (line d bytes : List ℕ) (n q r f t : ℕ) → length line ≡ 50 → length d ≡ 25 → bytes ≡ sets d 0 (hexBytes line)
     → n ≡ field 4 bytes 1 → q ≡ field 4 bytes 5 → r ≡ field 4 bytes 9 → f ≡ field 4 bytes 13 → t ≡ field 8 bytes 17
-    → step (finish n q r f t) ≡ finishIn (hexBytes line)
+    → stepLine (finish n q r f t) ≡ finishIn (hexBytes line)
 unfolding finishIn
 finish-read line d bytes n q r f t h k e a₁ a₂ a₃ a₄ a₅ =
     rw (eq-eqb (length (hexBytes line)) 25 (omega (arith, length-bytes line))) (rw (a₁, a₂, a₃, a₄, a₅, array-is d line bytes (omega arith) e))
 
 pub drained-read : (line d bytes : List ℕ) (n : ℕ) → length line ≡ 10 → length d ≡ 5 → bytes ≡ sets d 0 (hexBytes line) → n ≡ field 4 bytes 1
-    → step (drained n) ≡ drainedIn (hexBytes line)
+    → stepLine (drained n) ≡ drainedIn (hexBytes line)
 unfolding drainedIn
 drained-read line d bytes n h k e a =
     rw (eq-eqb (length (hexBytes line)) 5 (omega (arith, length-bytes line))) (rw (a, array-is d line bytes (omega arith) e))
 
 -- a command's ticket stands in the line's first 10 digits, its bytes in the others
 module _ (line frame : List ℕ) (least : 10 ≤ length line) (most : length line ≤ 8378) (room : 4184 ≤ length frame) where
-  taken : commandIn (hexBytes line) ≡ step (command (field 4 (hexBytes line) 1) (drop 5 (hexBytes line)))
+  taken : commandIn (hexBytes line) ≡ stepLine (command (field 4 (hexBytes line) 1) (drop 5 (hexBytes line)))
   unfolding commandIn
   taken = rw (within-true (length (hexBytes line)) 5 4189 (omega (arith, length-bytes line)) (omega (arith, length-bytes line)))
 
@@ -126,12 +126,12 @@ module _ (line frame : List ℕ) (least : 10 ≤ length line) (most : length lin
 
   pub command-read : (d head frame′ : List ℕ) (ticket : ℕ) → length d ≡ 5 → head ≡ sets d 0 (hexBytes (take 10 line)) → ticket ≡ field 4 head 1
       → frame′ ≡ sets frame 0 (hexBytes (take (length line - 10) (drop 10 line)))
-      → (step (command ticket (take (length line / 2 - 5) frame′)) ≡ commandIn (hexBytes line)) × (frame′ ≡ sets frame 0 (commandBytes (commandIn (hexBytes line))))
+      → (stepLine (command ticket (take (length line / 2 - 5) frame′)) ≡ commandIn (hexBytes line)) × (frame′ ≡ sets frame 0 (commandBytes (commandIn (hexBytes line))))
   command-read d head frame′ ticket k e t f =
       let bytes = hexBytes line in
       let first : head ≡ take 5 bytes = array-is d (take 10 line) head (length-take-le 10 line least ∙ (omega arith)) e ∙ bytes-take 5 line in
       let number : ticket ≡ field 4 bytes 1 = t ∙ ap (λ (s : List ℕ). field 4 s 1) first ∙ field-part 4 bytes 0 5 1 (omega arith) in
-      let others : frame′ ≡ sets frame 0 (drop 5 bytes) = f ∙ ap (λ (s : List ℕ). sets frame 0 (hexBytes s)) (rest 10 line) ∙ ap (sets frame 0) (bytes-drop 5 line) in
+      let others : frame′ ≡ sets frame 0 (drop 5 bytes) = f ∙ ap (λ (s : List ℕ). sets frame 0 (hexBytes s)) (rest-part 10 line) ∙ ap (sets frame 0) (bytes-drop 5 line) in
       let stored : take (length line / 2 - 5) frame′ ≡ drop 5 bytes =
       ap₂ (λ (n : ℕ) (s : List ℕ). take n s) (sym size) others ∙ take-sets frame (drop 5 bytes) (omega (arith, size)) in
-      (ap₂ (λ (n : ℕ) (s : List ℕ). step (command n s)) number stored ∙ sym taken, others ∙ ap (λ (l : Line). sets frame 0 (commandBytes l)) (sym taken))
+      (ap₂ (λ (n : ℕ) (s : List ℕ). stepLine (command n s)) number stored ∙ sym taken, others ∙ ap (λ (l : Line). sets frame 0 (commandBytes l)) (sym taken))

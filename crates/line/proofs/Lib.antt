@@ -1,5 +1,5 @@
 pub mod Edges
-pub mod Examples
+pub mod WorkedExample
 pub mod Digits
 pub mod Frames
 pub mod EveryStep

@@ -11,7 +11,7 @@ use lib.Seq.{sets, drop-cons, take-at, drop-at, take-all, length-take-le, take-a
 use borrow.Author.Tests.{ne-eqb, lt-ltb, le-ltb}
 use Rattle.laws.specs.Stores.{Wrote}
 use Rattle.laws.proofs.Lists.{decide}
-use Rattle.laws.proofs.Stores.{sets-put}
+use Rattle.laws.proofs.Stores.{sets-withPart}
 use Rattle.line.specs.Split.{lineRoom, kept, lineEnd, split}
 
 -- where the line ends in what is left of a piece, from i on
@@ -54,15 +54,15 @@ first-of p s m h =
 
 -- text behind the bytes that are kept, as far as it is kept
 module _ (held held′ text : List ℕ) (have end : ℕ) (h : have ≤ lineRoom) (room : lineRoom ≤ length held) (w : Wrote held held′ have end (take (lineRoom - have) text)) where
-  abbrev few : length (take (lineRoom - have) text) ≤ lineRoom - have
-  few = rw (length-take (lineRoom - have) text) (omega arith)
+  abbrev fewDigits : length (take (lineRoom - have) text) ≤ lineRoom - have
+  fewDigits = rw (length-take (lineRoom - have) text) (omega arith)
 
   front : length (take have held) ≡ have
   front = length-take-le have held (omega arith)
 
   now-held : held′ ≡ take have held ++ take (lineRoom - have) text ++ drop end held
   now-held =
-      w .whole ∙ sets-put held (take (lineRoom - have) text) have (omega (arith, few))
+      w .whole ∙ sets-withPart held (take (lineRoom - have) text) have (omega (arith, fewDigits))
       ∙ sym (append-assoc (take have held) (take (lineRoom - have) text) (drop (length (take (lineRoom - have) text)) (drop have held)))
       ∙ ap (λ (r : List ℕ). take have held ++ take (lineRoom - have) text ++ r) (drop-drop (length (take (lineRoom - have) text)) have held ∙ ap (λ (n : ℕ). drop n held) (sym (w .next)))
 
@@ -70,7 +70,7 @@ module _ (held held′ text : List ℕ) (have end : ℕ) (h : have ≤ lineRoom)
   ends = length-append (take have held) (take (lineRoom - have) text) ∙ (omega (arith, front, w .next))
 
   pub append-fits : end ≤ lineRoom
-  append-fits = omega (arith, w .next, few)
+  append-fits = omega (arith, w .next, fewDigits)
 
   pub append-kept : take end held′ ≡ kept (take have held ++ text)
   unfolding kept

@@ -8,7 +8,7 @@ use lib.ListN.{length, take, drop, set, length-append, length-take, length-drop,
 use lib.Seq.{sets, take-at, drop-at, getD-drop, drop-drop}
 use Rattle.laws.specs.Parts.{pieces}
 use Rattle.laws.specs.Stores.{Wrote}
-use Rattle.laws.proofs.Stores.{rest, wrote-none, wrote-sets, wrote-append}
+use Rattle.laws.proofs.Stores.{rest-part, wrote-none, wrote-sets, wrote-append}
 use Rattle.field.specs.Field.{field, littleEndian}
 use Rattle.field.proofs.Laws.{field-after, field-littleEndian, length-littleEndian}
 use Rattle.model.specs.Frames.{word}
@@ -62,8 +62,8 @@ pub record First (s : List ℕ) : Type 0 where
   pub reads : answersIn s ≡ answer ∷ answersIn (drop (8 + field 4 s 4) s)
   pub others : Whole (drop (8 + field 4 s 4) s)
 
-first : (s : List ℕ) → 0 < length s → Whole s → First s
-first s h whole =
+first-answer : (s : List ℕ) → 0 < length s → Whole s → First s
+first-answer s h whole =
     let n = field 4 s 4 in
     let r = take n (drop 8 s) in
     let w : Written = record { ticket = word s 0; response = r } in
@@ -111,7 +111,7 @@ rendered-all bytes d e end i h r =
 -- the answer at i, whose byte count is n
 module _ (bytes : List ℕ) (i n : ℕ) (inside : i < length bytes) (whole : Whole (drop i bytes)) (count : n ≡ field 4 bytes (i + 4)) where
   pub at-i : First (drop i bytes)
-  at-i = first (drop i bytes) (omega (arith, length-drop i bytes)) whole
+  at-i = first-answer (drop i bytes) (omega (arith, length-drop i bytes)) whole
 
   counts : n ≡ field 4 (drop i bytes) 4
   counts = count ∙ sym (field-drop 4 bytes i 4)
@@ -174,5 +174,5 @@ wrote-answer {d} {e₁} {e₂} {e₃} answer at middle end w is p q r =
     subst (Wrote d (set e₃ end 10) at (end + 1)) (sym (answer-line w))
     (wrote-append (hexPair 0x80) (hexText t ++ (hexText (w .response) ++ 10 ∷ [])) (wrote-sets at 2 (hexPair 0x80) (pair-length 0x80) p)
     (wrote-append (hexText t) (hexText (w .response) ++ 10 ∷ []) (subst (λ (s : List ℕ). Wrote e₁ e₂ (at + 2) middle (hexText s)) ticket q)
-    (wrote-append (hexText (w .response)) (10 ∷ []) (subst (λ (s : List ℕ). Wrote e₂ e₃ middle end (hexText s)) (rest 8 answer ∙ response) r)
+    (wrote-append (hexText (w .response)) (10 ∷ []) (subst (λ (s : List ℕ). Wrote e₂ e₃ middle end (hexText s)) (rest-part 8 answer ∙ response) r)
     (wrote-sets end 1 (10 ∷ []) refl refl))))

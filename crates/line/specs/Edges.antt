@@ -4,15 +4,15 @@ use mathlib.Core.List.{List, [], _∷_, _++_, map}
 use Prim.Native.Nat.{ℕ, _+_, _*_, _-_}
 use lib.ListN.{replicate}
 use Rattle.model.specs.Steps.{command, finish, drained}
-use Rattle.line.specs.Line.{Line, step, noFrame, lineOf}
+use Rattle.line.specs.Line.{Line, stepLine, noFrame, lineOf}
 
 infix 80 _means_
 -- a line, and what it stands for
-pub record Case : Type 0 where
+pub record Edge : Type 0 where
   pub line : List ℕ
   pub meaning : Line
 
-abbrev pub _means_ : List ℕ → Line → Case
+abbrev pub _means_ : List ℕ → Line → Edge
 line means meaning = record { line = line; meaning = meaning }
 
 -- the digits of n bytes: the kind, which is below 10, and zeros
@@ -23,22 +23,22 @@ ofKind k n = 48 ∷ (48 + k) ∷ replicate (2 * n - 2) 48
 abbrev pub ending : ℕ → ℕ → List ℕ
 ending h l = 48 ∷ 50 ∷ (replicate 6 48 ++ h ∷ l ∷ [])
 
-abbrev pub cases : List Case
-cases =
+abbrev pub lineEdges : List Edge
+lineEdges =
     -- the lengths of each kind
     ofKind 0 4 means noFrame
-    ∷ ofKind 0 5 means step (command 0 [])
-    ∷ ofKind 0 4189 means step (command 0 (replicate 4184 0))
+    ∷ ofKind 0 5 means stepLine (command 0 [])
+    ∷ ofKind 0 4189 means stepLine (command 0 (replicate 4184 0))
     ∷ ofKind 0 4190 means noFrame
     ∷ ofKind 1 24 means noFrame
-    ∷ ofKind 1 25 means step (finish 0 0 0 0 0)
-    ∷ ofKind 2 5 means step (drained 0)
+    ∷ ofKind 1 25 means stepLine (finish 0 0 0 0 0)
+    ∷ ofKind 2 5 means stepLine (drained 0)
     ∷ ofKind 2 6 means noFrame
     -- a digit too many, and digits of either case
     ∷ (48 ∷ ofKind 2 5) means noFrame
-    ∷ ending 65 70 means step (drained 0xaf000000)
-    ∷ ending 97 102 means step (drained 0xaf000000)
+    ∷ ending 65 70 means stepLine (drained 0xaf000000)
+    ∷ ending 97 102 means stepLine (drained 0xaf000000)
     ∷ []
 
 abbrev pub Edges : Type 0
-Edges = map (λ (c : Case). lineOf (c .line)) cases ≡ map (λ (c : Case). c .meaning) cases
+Edges = map (λ (c : Edge). lineOf (c .line)) lineEdges ≡ map (λ (c : Edge). c .meaning) lineEdges

@@ -4,5 +4,5 @@ pub mod Split
 pub mod Log
 pub mod Reading
 pub mod Promises
-pub mod Examples
+pub mod WorkedExample
 pub mod Edges

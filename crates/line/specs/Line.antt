@@ -15,24 +15,24 @@ use Rattle.line.specs.declared.Decoded.the-variants.{Framed, NoFrame}
 
 -- a step, or the number of a refusal
 pub data Line : Type 0 where
-  step : Act → Line
-  refused : ℕ → Line
+  stepLine : Act → Line
+  refusedLine : ℕ → Line
 
 -- the line is no frame
 abbrev pub noFrame : Line
-noFrame = refused 7
+noFrame = refusedLine 7
 
 -- 00 ticket command, of 5 to 4,189 bytes
 unfoldable pub commandIn : List ℕ → Line
-commandIn b = cond (within (length b) 5 4189) (step (command (field 4 b 1) (drop 5 b))) noFrame
+commandIn b = cond (within (length b) 5 4189) (stepLine (command (field 4 b 1) (drop 5 b))) noFrame
 
 -- 01 stream, queue type, resource, flags, timestamp, of 25
 unfoldable pub finishIn : List ℕ → Line
-finishIn b = cond (eqb (length b) 25) (step (finish (field 4 b 1) (field 4 b 5) (field 4 b 9) (field 4 b 13) (field 8 b 17))) noFrame
+finishIn b = cond (eqb (length b) 25) (stepLine (finish (field 4 b 1) (field 4 b 5) (field 4 b 9) (field 4 b 13) (field 8 b 17))) noFrame
 
 -- 02 stream, of 5
 unfoldable pub drainedIn : List ℕ → Line
-drainedIn b = cond (eqb (length b) 5) (step (drained (field 4 b 1))) noFrame
+drainedIn b = cond (eqb (length b) 5) (stepLine (drained (field 4 b 1))) noFrame
 
 -- by the first byte; where there is none, there are too few for any kind
 unfoldable pub frameIn : List ℕ → Line
@@ -45,7 +45,7 @@ frameIn b =
 unfoldable pub lineOf : List ℕ → Line
 lineOf line = cond (isHex line) (frameIn (hexBytes line)) noFrame
 
--- What `decode` answers
+-- What `decode_line` answers
 
 -- a frame of 00, 01 or 02, with the buffer that is left: a command's bytes are the first of it
 abbrev pub framed : Frame → List ℕ → Act
@@ -55,8 +55,8 @@ framed (Drained stream) buffer = drained stream
 
 -- a frame, or refusal 7
 abbrev pub decoded : Decoded → List ℕ → Line
-decoded (Framed f) buffer = step (framed f buffer)
-decoded NoFrame buffer = refused 7
+decoded (Framed f) buffer = stepLine (framed f buffer)
+decoded NoFrame buffer = refusedLine 7
 
 -- how many bytes of the buffer are a command's
 abbrev pub countIn : Frame → ℕ
@@ -70,7 +70,7 @@ countOf NoFrame = 0
 
 -- the bytes that a line brings into the buffer: those of its command
 abbrev pub commandBytes : Line → List ℕ
-commandBytes (step (command ticket frame)) = frame
-commandBytes (step (finish stream queue resource flags timestamp)) = []
-commandBytes (step (drained stream)) = []
-commandBytes (refused k) = []
+commandBytes (stepLine (command ticket frame)) = frame
+commandBytes (stepLine (finish stream queue resource flags timestamp)) = []
+commandBytes (stepLine (drained stream)) = []
+commandBytes (refusedLine k) = []

@@ -11,7 +11,7 @@ use Rattle.model.specs.Numbers.{tableWords, answerRoom}
 use Rattle.model.specs.Answers.{Written, answersIn, rewritten}
 use Rattle.model.specs.Tables.{Layout, Effect, effect, freshen}
 use Rattle.line.specs.Hex.{hexText}
-use Rattle.line.specs.Line.{Line, step, refused, lineOf}
+use Rattle.line.specs.Line.{Line, stepLine, refusedLine, lineOf}
 use Rattle.line.specs.Split.{linesIn}
 
 -- What is written
@@ -40,18 +40,18 @@ shown refusal bytes = cond (eqb refusal 0) (answerLines bytes) (refusalLine refu
 
 -- the bytes written, and the table that is left
 pub record Logged : Type 0 where
-  pub output : List ℕ
+  pub text : List ℕ
   pub table : List ℕ
 
 -- what a step shows and leaves
 abbrev pub stepped : Effect → Logged
-stepped e = record { output = shown (e .refusal) (take (e .written) (e .room)); table = e .table }
+stepped e = record { text = shown (e .refusal) (take (e .written) (e .room)); table = e .table }
 
 module _ (L : Layout) where
   -- a step is lent a room of zeros, of which only the bytes written are shown; a refused line leaves the table
   abbrev pub onLine : List ℕ → Line → Logged
-  onLine t (step a) = stepped (effect L t a (zeros answerRoom))
-  onLine t (refused k) = record { output = refusalLine k; table = t }
+  onLine t (stepLine a) = stepped (effect L t a (zeros answerRoom))
+  onLine t (refusedLine k) = record { text = refusalLine k; table = t }
 
   -- a line on a table
   unfoldable pub lineStep : List ℕ → List ℕ → Logged
@@ -60,7 +60,7 @@ module _ (L : Layout) where
   -- lines, each on the table that the last one left
   unfoldable pub linesOutput : List ℕ → List (List ℕ) → List ℕ
   linesOutput t [] = []
-  linesOutput t (line ∷ lines) = lineStep t line .output ++ linesOutput (lineStep t line .table) lines
+  linesOutput t (line ∷ lines) = lineStep t line .text ++ linesOutput (lineStep t line .table) lines
 
   -- a whole log, from a fresh table
   unfoldable pub logOutput : List ℕ → List ℕ

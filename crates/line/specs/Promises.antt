@@ -1,4 +1,4 @@
--- What holds of lines and of logs. Each statement is proved in proofs/, `ShowsEntries` and the example over every layout that meets the two laws;
+-- What holds of lines and of logs. Each statement is proved in proofs/, `ShowsEvents` and the example over every layout that meets the two laws;
 -- crates/replay closes them over this device's.
 use Prim.Native.Nat.{ℕ, _≤_, _<_}
 use mathlib.Core.Path.{_≡_}
@@ -9,11 +9,11 @@ use Rattle.laws.specs.Parts.{pieces, zeros}
 use Rattle.field.specs.Field.{littleEndian}
 use Rattle.model.specs.Numbers.{answerRoom}
 use Rattle.model.specs.Device.{fresh}
-use Rattle.model.specs.Steps.{Act, command, finish, drained, Step, Entry, entriesOf}
+use Rattle.model.specs.Steps.{Act, command, finish, drained, Step, Event, eventsOf}
 use Rattle.model.specs.WellFormed.{goodAct}
 use Rattle.model.specs.Tables.{Layout, effect}
 use Rattle.line.specs.Hex.{hexText}
-use Rattle.line.specs.Line.{Line, step, refused, noFrame, lineOf}
+use Rattle.line.specs.Line.{Line, stepLine, refusedLine, noFrame, lineOf}
 use Rattle.line.specs.Split.{kept, linesIn, split}
 use Rattle.line.specs.Log.{refusalLine, Whole, shown, stepped, logOutput}
 use Rattle.line.specs.Reading.{start, callsOutput, allUsed, allOffers}
@@ -30,8 +30,8 @@ KeptDecides = (line : List ℕ) → lineOf (kept line) ≡ lineOf line
 
 -- a step's numbers and bytes are in the host's types
 abbrev pub goodLine : Line → Bool
-goodLine (step a) = goodAct a
-goodLine (refused k) = true
+goodLine (stepLine a) = goodAct a
+goodLine (refusedLine k) = true
 
 abbrev pub StepsAreGood : Type 0
 StepsAreGood = (line : List ℕ) → goodLine (lineOf line) ≡ true
@@ -45,7 +45,7 @@ frameBytes (drained stream) = 0x02 ∷ littleEndian 4 stream
 
 -- every step that fits has a line, in lower case, that stands for it
 abbrev pub EveryStep : Type 0
-EveryStep = (a : Act) → goodAct a ≡ true → length (frameBytes a) ≤ 4189 → lineOf (hexText (frameBytes a)) ≡ step a
+EveryStep = (a : Act) → goodAct a ≡ true → length (frameBytes a) ≤ 4189 → lineOf (hexText (frameBytes a)) ≡ stepLine a
 
 -- A step of the log
 
@@ -74,22 +74,22 @@ AnyCutting L = (ps : List (List ℕ)) → callsOutput L (start L) (allOffers ps)
 -- the steps of lines, as a list of condition 3
 abbrev pub stepsIn : List Line → List Step
 stepsIn [] = []
-stepsIn (step a ∷ lines) = record { act = a; room = zeros answerRoom } ∷ stepsIn lines
-stepsIn (refused k ∷ lines) = stepsIn lines
+stepsIn (stepLine a ∷ lines) = record { act = a; room = zeros answerRoom } ∷ stepsIn lines
+stepsIn (refusedLine k ∷ lines) = stepsIn lines
 
--- what lines write, where these are the entries of their steps
-abbrev pub linesShown : List Line → List Entry → List ℕ
+-- what lines write, where these are the events of their steps
+abbrev pub linesShown : List Line → List Event → List ℕ
 linesShown [] es = []
-linesShown (step a ∷ lines) [] = []
-linesShown (step a ∷ lines) (e ∷ es) = shown (e .refusal) (e .bytes) ++ linesShown lines es
-linesShown (refused k ∷ lines) es = refusalLine k ++ linesShown lines es
+linesShown (stepLine a ∷ lines) [] = []
+linesShown (stepLine a ∷ lines) (e ∷ es) = shown (e .refusal) (e .bytes) ++ linesShown lines es
+linesShown (refusedLine k ∷ lines) es = refusalLine k ++ linesShown lines es
 
--- what a log writes by the entries of its steps from a fresh device
-abbrev pub entriesOutput : List ℕ → List ℕ
-entriesOutput log =
+-- what a log writes by the events of its steps from a fresh device
+abbrev pub eventsOutput : List ℕ → List ℕ
+eventsOutput log =
     let lines = map lineOf (linesIn log) in
-    linesShown lines (entriesOf fresh (stepsIn lines))
+    linesShown lines (eventsOf fresh (stepsIn lines))
 
--- a log writes what the entries of its steps show, the same over every layout that meets the two laws
-abbrev pub ShowsEntries : Layout → Type 0
-ShowsEntries L = (log : List ℕ) → logOutput L log ≡ entriesOutput log
+-- a log writes what the events of its steps show, the same over every layout that meets the two laws
+abbrev pub ShowsEvents : Layout → Type 0
+ShowsEvents L = (log : List ℕ) → logOutput L log ≡ eventsOutput log

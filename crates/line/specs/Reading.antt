@@ -18,16 +18,16 @@ pub record Reader : Type 0 where
 -- what a call on a piece does: the bytes used of the piece, the bytes written, the reader that is left
 pub record Call : Type 0 where
   pub used : ℕ
-  pub output : List ℕ
+  pub text : List ℕ
   pub reader : Reader
 
 -- a line that ended was stepped, and the next one starts empty
 abbrev pub stepDone : ℕ → Logged → Call
-stepDone used s = record { used = used; output = s .output; reader = record { table = s .table; line = [] } }
+stepDone used s = record { used = used; text = s .text; reader = record { table = s .table; line = [] } }
 
 module _ (L : Layout) where
   abbrev pub onSplit : List ℕ → Split → Call
-  onSplit t s = cond (s .ended) (stepDone (s .used) (lineStep L t (s .line))) (record { used = s .used; output = []; reader = record { table = t; line = s .line } })
+  onSplit t s = cond (s .ended) (stepDone (s .used) (lineStep L t (s .line))) (record { used = s .used; text = []; reader = record { table = t; line = s .line } })
 
   -- a call takes a piece up to its first byte 10 and steps the line that ends there, or keeps all of the piece
   unfoldable pub onPiece : Reader → List ℕ → Call
@@ -35,11 +35,11 @@ module _ (L : Layout) where
 
   -- the last line is stepped where the log ends, unless it is empty
   unfoldable pub lastStep : Reader → Logged
-  lastStep r = cond (isEmpty (r .line)) (record { output = []; table = r .table }) (lineStep L (r .table) (r .line))
+  lastStep r = cond (isEmpty (r .line)) (record { text = []; table = r .table }) (lineStep L (r .table) (r .line))
 
   -- what is written then
   abbrev pub atEnd : Reader → List ℕ
-  atEnd r = lastStep r .output
+  atEnd r = lastStep r .text
 
   -- a fresh table, and no line begun
   abbrev pub start : Reader
@@ -48,7 +48,7 @@ module _ (L : Layout) where
   -- all that calls on these pieces write, one after the other, and then the end of the log
   unfoldable pub callsOutput : Reader → List (List ℕ) → List ℕ
   callsOutput r [] = atEnd r
-  callsOutput r (p ∷ ps) = onPiece r p .output ++ callsOutput (onPiece r p .reader) ps
+  callsOutput r (p ∷ ps) = onPiece r p .text ++ callsOutput (onPiece r p .reader) ps
 
 -- the bytes that a call uses of its piece, and those that all calls use
 unfoldable pub usedOf : List ℕ → List ℕ

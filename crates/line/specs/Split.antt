@@ -7,14 +7,14 @@ use lib.ListN.{length, take}
 use Rattle.line.specs.declared.Gathered.{Gathered}
 
 -- a byte before the first line of what follows it
-abbrev pub before : ℕ → List (List ℕ) → List (List ℕ)
-before b [] = (b ∷ []) ∷ []
-before b (line ∷ lines) = (b ∷ line) ∷ lines
+abbrev pub prefixed : ℕ → List (List ℕ) → List (List ℕ)
+prefixed b [] = (b ∷ []) ∷ []
+prefixed b (line ∷ lines) = (b ∷ line) ∷ lines
 
 -- the lines: each ends at byte 10, the last one also where the log ends, unless it is empty
 unfoldable pub linesIn : List ℕ → List (List ℕ)
 linesIn [] = []
-linesIn (b ∷ s) = cond (eqb b 10) ([] ∷ linesIn s) (before b (linesIn s))
+linesIn (b ∷ s) = cond (eqb b 10) ([] ∷ linesIn s) (prefixed b (linesIn s))
 
 -- Reading in pieces
 

@@ -28,7 +28,7 @@ const FINISH_DIGITS: usize = 50;
 const DRAINED_DIGITS: usize = 10;
 
 // What a line stands for. A command's bytes are stored from the start of `frame`, and nothing else is.
-pub fn decode(line: &[u8], frame: &mut [u8]) -> Decoded
+pub fn decode_line(line: &[u8], frame: &mut [u8]) -> Decoded
     requires { ⌜ 4184 ≤ length (now frame) ⌝ }
     ensures fits { λ r. ⌜ countOf r ≤ 4184 ⌝ }
     ensures means { λ r. ⌜ decoded r (now (frame .exit)) ≡ lineOf (now (line .entry)) ⌝ }

@@ -4,7 +4,7 @@ mod hex;
 mod splitting;
 mod writing;
 
-pub use decoding::decode;
+pub use decoding::decode_line;
 pub use splitting::LINE_ROOM;
 pub use splitting::gather;
 pub use writing::put_outcome;

@@ -8,41 +8,41 @@ use mathlib.Core.List.{List, [], _∷_, _++_, map, tail-eq-of-cons-eq}
 use lib.ListN.{length}
 use lib.Dec.{eqb, ltb}
 use borrow.Author.Tests.{eqb-true, le-ltb, ne-eqb}
-use Rattle.laws.specs.Lists.{keep, anyOf, allOf, count, isNone}
+use Rattle.laws.specs.Lists.{keep, anyOf, allOf, howMany, isNone}
 use Rattle.laws.proofs.Tests.{never, both, and-left, and-right}
-use Rattle.laws.proofs.Lists.{decide, eqb-refl, keep-comm, keep-append, keep-excluded, all-append, all-keep, count-append, count-split, count-map, count-kept}
-use Rattle.laws.proofs.Ascending.{ascending-count}
+use Rattle.laws.proofs.Lists.{decide, eqb-same, keep-comm, keep-append, keep-excluded, all-append, all-keep, howMany-append, howMany-split, howMany-map, howMany-kept}
+use Rattle.laws.proofs.Ascending.{ascending-howMany}
 use Rattle.field.specs.Field.{field, littleEndian}
 use Rattle.model.specs.Device.{QueueType, input, output, Stream, Device, fresh, Buffer, queuedIn, byResource, recordOf}
 use Rattle.model.specs.Frames.{queueNumber}
-use Rattle.model.specs.Answers.{Answer, response, bytesOf, Written, rewritten, answersIn}
+use Rattle.model.specs.Answers.{Answer, responseOf, bytesOf, Written, rewritten, answersIn}
 use Rattle.model.specs.Replies.{Reply}
-use Rattle.model.specs.Steps.{Act, command, finish, drained, Step, streamOf, serve, Outcome, refused, around, performOf, perform, step, Entry, entryOf, entriesOf, final, answersOf, isError, accepted}
+use Rattle.model.specs.Steps.{Act, command, finish, drained, Step, streamOf, serve, DeviceReply, refused, around, performOf, perform, stepOn, Event, eventOf, eventsOf, final, answersOf, isError, accepted}
 use Rattle.model.specs.WellFormed.{wellFormed, goodAct, goodSteps}
-use Rattle.model.specs.Ledger.{Fed, fed, Awaited, toBuffer, toDrain, Pending, Ledger, streamIn, ticketIn, awaitedBy, pending, adds, isBufferOf, isDrain, resourceIn, pays, due, byNumber, awaits, inOrder, ledgerAfter, paid, ownTickets, expectedTickets, fedOf, ledgerFrom, ledgerOf, tickets, AsExpected, reached, ofStep, answersTo, Owed, owed, owedTo, owedBuffers, owedDrain, owedIn}
-use Rattle.model.specs.Promises.{written}
-use Rattle.model.specs.Condition3.{older, Framed, OnDevices}
+use Rattle.model.specs.Ledger.{Noted, noted, Awaited, toBuffer, toDrain, Pending, Ledger, stepStream, stepTicket, awaitedBy, pending, adds, isBufferOf, isDrain, resourceIn, completes, completedBy, byNumber, awaits, inOrder, ledgerAfter, completed, ownTickets, expectedTickets, notedOf, ledgerFrom, ledgerOf, tickets, AsExpected, reached, ofStep, answersTo, Outstanding, outstanding, outstandingTo, outstandingBuffers, outstandingDrain, outstandingIn}
+use Rattle.model.specs.Promises.{asWritten}
+use Rattle.model.specs.Condition3.{older, InWholeAnswers, OnDevices}
 use Rattle.model.proofs.ReadBack.{error-is, read-back}
 use Rattle.model.proofs.WellFormed.{GoodSelf, well-record, well-fresh, stays-well-formed}
-use Rattle.model.proofs.LedgerView.{View, timestampIn, viewOf, viewAt, to, buffersIn, bufferIn, ticketsIn, viewAfter, ticketsPaid, view-own, view-other, tickets-paid}
+use Rattle.model.proofs.LedgerView.{View, awaitedTimestamp, viewOf, viewAt, isTo, buffersIn, awaitedBuffer, ticketsIn, viewAfter, ticketsCompleted, view-own, view-other, tickets-completed}
 use Rattle.model.proofs.Fits.{Sane, holding, fails, known, knownIf, answerTickets, FitsAct, serve-fits}
 use Rattle.model.proofs.Isolation.{step-runs, step-refused, own-record, other-record, roomRefusal, isolated}
 
--- What an entry shows of its outcome
+-- What an event shows of a step
 
-tickets-written : (l : List Answer) → tickets (map written l) ≡ answerTickets l
+tickets-written : (l : List Answer) → tickets (map asWritten l) ≡ answerTickets l
 tickets-written [] = refl
 tickets-written (a ∷ l) = ap (λ r. a .ticket ∷ r) (tickets-written l)
 
-errors-written : (l : List Answer) → anyOf isError (map written l) ≡ anyOf fails l
+errors-written : (l : List Answer) → anyOf isError (map asWritten l) ≡ anyOf fails l
 errors-written [] = refl
 errors-written (a ∷ l) = simp (error-is a, errors-written l)
 
-module _ (s : Step) (o : Outcome) (read : answersIn (bytesOf (o .answers)) ≡ map written (o .answers)) where
-  tickets-are : tickets (answersOf (entryOf s o)) ≡ answerTickets (o .answers)
+module _ (s : Step) (o : DeviceReply) (read : answersIn (bytesOf (o .answers)) ≡ map asWritten (o .answers)) where
+  tickets-are : tickets (answersOf (eventOf s o)) ≡ answerTickets (o .answers)
   tickets-are = ap tickets read ∙ tickets-written (o .answers)
 
-  pub accepted-is : accepted (entryOf s o) ≡ (eqb (o .refusal) 0 && not (anyOf fails (o .answers)))
+  pub accepted-is : accepted (eventOf s o) ≡ (eqb (o .refusal) 0 && not (anyOf fails (o .answers)))
   unfolding accepted
   accepted-is = ap (λ (x : Bool). eqb (o .refusal) 0 && not x) (ap (anyOf isError) read ∙ errors-written (o .answers))
 
@@ -50,7 +50,7 @@ module _ (s : Step) (o : Outcome) (read : answersIn (bytesOf (o .answers)) ≡ m
 
 record Agree (d : Device) (l : Ledger) : Type 0 where
   well : wellFormed d ≡ true
-  owes : (n : ℕ) → viewAt n l ≡ holding (recordOf n (d .places))
+  sameView : (n : ℕ) → viewAt n l ≡ holding (recordOf n (d .places))
   knows : allOf (awaits known) l ≡ true
 
 pub sane-record : (n : ℕ) (d : Device) → wellFormed d ≡ true → Sane (recordOf n (d .places))
@@ -62,8 +62,8 @@ sane-record n d h = of (recordOf n (d .places)) (well-record n d h)
 
 -- a step answers as the ledger expects, and the two agree after it
 record Kept (k : ℕ) (d : Device) (l : Ledger) (s : Step) : Type 0 where
-  answers : tickets (answersOf (entryOf s (step d s))) ≡ expectedTickets (fedOf k (entryOf s (step d s))) l
-  agree : Agree (step d s .device) (ledgerAfter (fedOf k (entryOf s (step d s))) l)
+  answers : tickets (answersOf (eventOf s (stepOn d s))) ≡ expectedTickets (notedOf k (eventOf s (stepOn d s))) l
+  agree : Agree (stepOn d s .device) (ledgerAfter (notedOf k (eventOf s (stepOn d s))) l)
 
 own-nothing : (a : Act) → ownTickets a false false ≡ []
 unfolding ownTickets
@@ -79,25 +79,25 @@ module _ (k : ℕ) (d : Device) (l : Ledger) (s : Step) (g : Agree d l) (m : goo
   abbrev a : Act
   a = s .act
 
-  read : answersIn (bytesOf (step d s .answers)) ≡ map written (step d s .answers)
+  read : answersIn (bytesOf (stepOn d s .answers)) ≡ map asWritten (stepOn d s .answers)
   read = read-back d s (g .well) m
 
   -- a step that is refused by a number
-  kept-refused : (j : ℕ) → eqb j 0 ≡ false → step d s ≡ refused j d → Kept k d l s
+  kept-refused : (j : ℕ) → eqb j 0 ≡ false → stepOn d s ≡ refused j d → Kept k d l s
   kept-refused j z e =
-      let o = entryOf s (step d s) in
-      let no : accepted o ≡ false = accepted-is s (step d s) read ∙ ap (λ (x : Outcome). eqb (x .refusal) 0 && not (anyOf fails (x .answers))) e ∙ simp z in
-      let is : fedOf k o ≡ fed k a false false =
-      λ i. record { number = k; act = a; isZero = (ap (λ (x : Outcome). eqb (x .refusal) 0) e ∙ z) i; accepted = no i } in
+      let o = eventOf s (stepOn d s) in
+      let no : accepted o ≡ false = accepted-is s (stepOn d s) read ∙ ap (λ (x : DeviceReply). eqb (x .refusal) 0 && not (anyOf fails (x .answers))) e ∙ simp z in
+      let is : notedOf k o ≡ noted k a false false =
+      λ i. record { number = k; act = a; isZero = (ap (λ (x : DeviceReply). eqb (x .refusal) 0) e ∙ z) i; accepted = no i } in
       record {
-        answers = tickets-are s (step d s) read ∙ ap (λ (x : Outcome). answerTickets (x .answers)) e ∙ sym (own-nothing a) ∙ ap (λ (x : Fed). expectedTickets x l) (sym is);
-        agree = subst (λ (x : Outcome). Agree (x .device) (ledgerAfter (fedOf k o) l)) (sym e) (subst (λ (x : Fed). Agree d (ledgerAfter x l)) (sym is) g);
+        answers = tickets-are s (stepOn d s) read ∙ ap (λ (x : DeviceReply). answerTickets (x .answers)) e ∙ sym (own-nothing a) ∙ ap (λ (x : Noted). expectedTickets x l) (sym is);
+        agree = subst (λ (x : DeviceReply). Agree (x .device) (ledgerAfter (notedOf k o) l)) (sym e) (subst (λ (x : Noted). Agree d (ledgerAfter x l)) (sym is) g);
       }
 
   -- a step of a stream
-  module _ (e : step d s ≡ performOf d a (some (streamIn a))) where
+  module _ (e : stepOn d s ≡ performOf d a (some (stepStream a))) where
     abbrev n : ℕ
-    n = streamIn a
+    n = stepStream a
 
     abbrev v : Reply
     v = serve (around d n) n (recordOf n (d .places)) a
@@ -108,110 +108,110 @@ module _ (k : ℕ) (d : Device) (l : Ledger) (s : Step) (g : Agree d l) (m : goo
     abbrev z : Bool
     z = eqb (v .refusal) 0
 
-    taken : accepted (entryOf s (step d s)) ≡ fit .acc
-    taken = accepted-is s (step d s) read ∙ ap (λ (x : Outcome). eqb (x .refusal) 0 && not (anyOf fails (x .answers))) e ∙ fit .is
+    taken : accepted (eventOf s (stepOn d s)) ≡ fit .acc
+    taken = accepted-is s (stepOn d s) read ∙ ap (λ (x : DeviceReply). eqb (x .refusal) 0 && not (anyOf fails (x .answers))) e ∙ fit .is
 
-    fed-is : fedOf k (entryOf s (step d s)) ≡ fed k a z (fit .acc)
+    fed-is : notedOf k (eventOf s (stepOn d s)) ≡ noted k a z (fit .acc)
     fed-is = λ i. record { number = k; act = a; isZero = eqb (e i .refusal) 0; accepted = taken i }
 
-    own-owes : viewAt n (ledgerAfter (fed k a z (fit .acc)) l) ≡ holding (recordOf n (performOf d a (some n) .device .places))
-    own-owes =
+    own-pending : viewAt n (ledgerAfter (noted k a z (fit .acc)) l) ≡ holding (recordOf n (performOf d a (some n) .device .places))
+    own-pending =
         view-own k a z (fit .acc) l
-        ∙ ap (viewAfter (pays a) (awaitedBy a) (ticketIn a) (fit .acc)) (g .owes n)
+        ∙ ap (viewAfter (completes a) (awaitedBy a) (stepTicket a) (fit .acc)) (g .sameView n)
         ∙ sym (fit .held)
         ∙ ap holding (sym (own-record n d a))
 
-    still-knows : (acc : Bool) → (acc ≡ true → knownIf (awaitedBy a) ≡ true) → allOf (awaits known) (ledgerAfter (fed k a z acc) l) ≡ true
+    still-knows : (acc : Bool) → (acc ≡ true → knownIf (awaitedBy a) ≡ true) → allOf (awaits known) (ledgerAfter (noted k a z acc) l) ≡ true
     still-knows false h = g .knows
     still-knows true h =
-        all-append (awaits known) (adds k a) (keep (λ p. not (due a p)) l)
-        ∙ both (knows-pending k (ticketIn a) n (awaitedBy a) (h refl)) (all-keep (awaits known) (λ p. not (due a p)) l (g .knows))
+        all-append (awaits known) (adds k a) (keep (λ p. not (completedBy a p)) l)
+        ∙ both (knows-pending k (stepTicket a) n (awaitedBy a) (h refl)) (all-keep (awaits known) (λ p. not (completedBy a p)) l (g .knows))
 
     kept-own : Kept k d l s
     kept-own =
         record {
           answers =
-              tickets-are s (step d s) read
-              ∙ ap (λ (x : Outcome). answerTickets (x .answers)) e
+              tickets-are s (stepOn d s) read
+              ∙ ap (λ (x : DeviceReply). answerTickets (x .answers)) e
               ∙ fit .told
-              ∙ ap (λ (x : View). ticketsPaid (pays a) (fit .acc) x ++ ownTickets a z (fit .acc)) (sym (g .owes n))
-              ∙ ap (λ (x : List ℕ). x ++ ownTickets a z (fit .acc)) (sym (tickets-paid k a z (fit .acc) l))
-              ∙ ap (λ (x : Fed). expectedTickets x l) (sym fed-is);
+              ∙ ap (λ (x : View). ticketsCompleted (completes a) (fit .acc) x ++ ownTickets a z (fit .acc)) (sym (g .sameView n))
+              ∙ ap (λ (x : List ℕ). x ++ ownTickets a z (fit .acc)) (sym (tickets-completed k a z (fit .acc) l))
+              ∙ ap (λ (x : Noted). expectedTickets x l) (sym fed-is);
           agree = record {
             well = stays-well-formed d s (g .well) m;
-            owes = λ j.
-                ap (λ (x : Fed). viewAt j (ledgerAfter x l)) fed-is
+            sameView = λ j.
+                ap (λ (x : Noted). viewAt j (ledgerAfter x l)) fed-is
                 ∙ decide (eqb n j)
-                (λ q. subst (λ (x : ℕ). viewAt x (ledgerAfter (fed k a z (fit .acc)) l) ≡ holding (recordOf x (performOf d a (some n) .device .places))) (eqb-true n j q) own-owes)
-                (λ q. view-other k j a z (fit .acc) l q ∙ g .owes j ∙ ap holding (sym (other-record j n d a q)))
-                ∙ ap (λ (x : Outcome). holding (recordOf j (x .device .places))) (sym e);
-            knows = ap (λ (x : Fed). allOf (awaits known) (ledgerAfter x l)) fed-is ∙ still-knows (fit .acc) (fit .adds);
+                (λ q. subst (λ (x : ℕ). viewAt x (ledgerAfter (noted k a z (fit .acc)) l) ≡ holding (recordOf x (performOf d a (some n) .device .places))) (eqb-true n j q) own-pending)
+                (λ q. view-other k j a z (fit .acc) l q ∙ g .sameView j ∙ ap holding (sym (other-record j n d a q)))
+                ∙ ap (λ (x : DeviceReply). holding (recordOf j (x .device .places))) (sym e);
+            knows = ap (λ (x : Noted). allOf (awaits known) (ledgerAfter x l)) fed-is ∙ still-knows (fit .acc) (fit .adds);
           };
         }
 
-pub stream-is : (a : Act) (n : ℕ) → streamOf a ≡ some n → n ≡ streamIn a
+pub step-stream-is : (a : Act) (n : ℕ) → streamOf a ≡ some n → n ≡ stepStream a
 unfolding streamOf
-stream-is (command t f) n e = decide (ltb (length f) 8) (λ h. let z : none ≡ some n = simp h at e in cc) (λ h. let z : some (field 4 f 4) ≡ some n = simp h at e in cc)
-stream-is (finish m qt r flags ts) n e = cc
-stream-is (drained m) n e = cc
+step-stream-is (command t f) n e = decide (ltb (length f) 8) (λ h. let z : none ≡ some n = simp h at e in cc) (λ h. let z : some (field 4 f 4) ≡ some n = simp h at e in cc)
+step-stream-is (finish m qt r flags ts) n e = cc
+step-stream-is (drained m) n e = cc
 
-kept : (k : ℕ) (d : Device) (l : Ledger) (s : Step) → Agree d l → goodAct (s .act) ≡ true → Kept k d l s
-kept k d l s g m =
+event-read : (k : ℕ) (d : Device) (l : Ledger) (s : Step) → Agree d l → goodAct (s .act) ≡ true → Kept k d l s
+event-read k d l s g m =
     decide (eqb (roomRefusal s) 0)
     (λ e. of (streamOf (s .act)) refl (step-runs d s e))
     (λ e. kept-refused k d l s g m (roomRefusal s) e (step-refused d s e))
   where
-    of : (o : Option ℕ) → streamOf (s .act) ≡ o → step d s ≡ perform d (s .act) → Kept k d l s
+    of : (o : Option ℕ) → streamOf (s .act) ≡ o → stepOn d s ≡ perform d (s .act) → Kept k d l s
     of none e h = kept-refused k d l s g m 4 refl (h ∙ ap (performOf d (s .act)) e)
-    of (some n) e h = kept-own k d l s g m (h ∙ ap (performOf d (s .act)) (e ∙ ap some (stream-is (s .act) n e)))
+    of (some n) e h = kept-own k d l s g m (h ∙ ap (performOf d (s .act)) (e ∙ ap some (step-stream-is (s .act) n e)))
 
 -- and so over a whole list
 
 abbrev good : Step → List Step → Type 0
 good s ss = (goodAct (s .act) && goodSteps ss) ≡ true
 
-as-expected : (k : ℕ) (d : Device) (l : Ledger) (ss : List Step) → Agree d l → goodSteps ss ≡ true → AsExpected k l (entriesOf d ss)
+as-expected : (k : ℕ) (d : Device) (l : Ledger) (ss : List Step) → Agree d l → goodSteps ss ≡ true → AsExpected k l (eventsOf d ss)
 as-expected k d l [] g m = tt
 as-expected k d l (s ∷ ss) g m =
-    let h = kept k d l s g (and-left (goodAct (s .act)) (goodSteps ss) m) in
-    (h .answers, as-expected (suc k) (step d s .device) (ledgerAfter (fedOf k (entryOf s (step d s))) l) ss (h .agree) (and-right (goodAct (s .act)) (goodSteps ss) m))
+    let h = event-read k d l s g (and-left (goodAct (s .act)) (goodSteps ss) m) in
+    (h .answers, as-expected (suc k) (stepOn d s .device) (ledgerAfter (notedOf k (eventOf s (stepOn d s))) l) ss (h .agree) (and-right (goodAct (s .act)) (goodSteps ss) m))
 
-agrees : (k : ℕ) (d : Device) (l : Ledger) (ss : List Step) → Agree d l → goodSteps ss ≡ true → Agree (final d ss) (ledgerFrom k l (entriesOf d ss))
-agrees k d l [] g m = g
-agrees k d l (s ∷ ss) g m =
-    agrees (suc k) (step d s .device) (ledgerAfter (fedOf k (entryOf s (step d s))) l) ss
-    (kept k d l s g (and-left (goodAct (s .act)) (goodSteps ss) m) .agree) (and-right (goodAct (s .act)) (goodSteps ss) m)
+agree-end : (k : ℕ) (d : Device) (l : Ledger) (ss : List Step) → Agree d l → goodSteps ss ≡ true → Agree (final d ss) (ledgerFrom k l (eventsOf d ss))
+agree-end k d l [] g m = g
+agree-end k d l (s ∷ ss) g m =
+    agree-end (suc k) (stepOn d s .device) (ledgerAfter (notedOf k (eventOf s (stepOn d s))) l) ss
+    (event-read k d l s g (and-left (goodAct (s .act)) (goodSteps ss) m) .agree) (and-right (goodAct (s .act)) (goodSteps ss) m)
 
 -- the bytes of a step are its answers
 
-pub rewritten-written : (l : List Answer) → rewritten (map written l) ≡ bytesOf l
+pub rewritten-written : (l : List Answer) → rewritten (map asWritten l) ≡ bytesOf l
 rewritten-written [] = refl
-rewritten-written (a ∷ l) = ap (λ r. littleEndian 4 (a .ticket) ++ (littleEndian 4 (length (response a)) ++ (response a ++ r))) (rewritten-written l)
+rewritten-written (a ∷ l) = ap (λ r. littleEndian 4 (a .ticket) ++ (littleEndian 4 (length (responseOf a)) ++ (responseOf a ++ r))) (rewritten-written l)
 
-all-framed : (d : Device) (ss : List Step) → wellFormed d ≡ true → goodSteps ss ≡ true → Framed (entriesOf d ss)
+all-framed : (d : Device) (ss : List Step) → wellFormed d ≡ true → goodSteps ss ≡ true → InWholeAnswers (eventsOf d ss)
 all-framed d [] h m = tt
 all-framed d (s ∷ ss) h m =
     let good = and-left (goodAct (s .act)) (goodSteps ss) m in (
-      ap rewritten (read-back d s h good) ∙ rewritten-written (step d s .answers),
+      ap rewritten (read-back d s h good) ∙ rewritten-written (stepOn d s .answers),
       refl,
-      all-framed (step d s .device) ss (stays-well-formed d s h good) (and-right (goodAct (s .act)) (goodSteps ss) m),
+      all-framed (stepOn d s .device) ss (stays-well-formed d s h good) (and-right (goodAct (s .act)) (goodSteps ss) m),
     )
 
 agree-fresh : Agree fresh []
 unfolding fresh viewOf holding
-agree-fresh = record { well = well-fresh; owes = λ n. refl; knows = refl }
+agree-fresh = record { well = well-fresh; sameView = λ n. refl; knows = refl }
 
 -- What stays pending is what the records hold
 
 -- counted apart: inputs, outputs, drains
-count-kinds : (p : Pending → Bool) (l : List Pending) → allOf (awaits known) l ≡ true
-    → count p (keep (awaits (isBufferOf 0x100)) l) + count p (keep (awaits (isBufferOf 0x101)) l) + count p (keep (awaits isDrain) l) ≡ count p l
-count-kinds p [] h = refl
-count-kinds p (x ∷ l) h =
-    of (x .awaited) refl (and-left (known (x .awaited)) (allOf (awaits known) l) h) (count-kinds p l (and-right (known (x .awaited)) (allOf (awaits known) l) h))
+howMany-kinds : (p : Pending → Bool) (l : List Pending) → allOf (awaits known) l ≡ true
+    → howMany p (keep (awaits (isBufferOf 0x100)) l) + howMany p (keep (awaits (isBufferOf 0x101)) l) + howMany p (keep (awaits isDrain) l) ≡ howMany p l
+howMany-kinds p [] h = refl
+howMany-kinds p (x ∷ l) h =
+    of (x .awaited) refl (and-left (known (x .awaited)) (allOf (awaits known) l) h) (howMany-kinds p l (and-right (known (x .awaited)) (allOf (awaits known) l) h))
   where
     Split : List Pending → Type 0
-    Split m = count p (keep (awaits (isBufferOf 0x100)) m) + count p (keep (awaits (isBufferOf 0x101)) m) + count p (keep (awaits isDrain) m) ≡ count p m
+    Split m = howMany p (keep (awaits (isBufferOf 0x100)) m) + howMany p (keep (awaits (isBufferOf 0x101)) m) + howMany p (keep (awaits isDrain) m) ≡ howMany p m
 
     queue : (q : ℕ) → (eqb q 0x100 || eqb q 0x101) ≡ true → (r ts : ℕ) → x .awaited ≡ toBuffer q r ts → Split l → Split (x ∷ l)
     queue q k r ts e i =
@@ -223,13 +223,13 @@ count-kinds p (x ∷ l) h =
     of (toBuffer q r ts) e k i = queue q (simp e at k) r ts e i
     of toDrain e k i = simp e (omega (arith, i))
 
-abbrev owedOf : Pending → Owed
-owedOf x = owed (x .ticket) (x .awaited)
+abbrev outstandingOf : Pending → Outstanding
+outstandingOf x = outstanding (x .ticket) (x .awaited)
 
-abbrev bufferOwed : ℕ → Buffer → Owed
-bufferOwed qt i = owed (i .ticket) (toBuffer qt (i .resource) (i .timestamp))
+abbrev bufferOutstanding : ℕ → Buffer → Outstanding
+bufferOutstanding qt i = outstanding (i .ticket) (toBuffer qt (i .resource) (i .timestamp))
 
-is-buffer : (qt : ℕ) (w : Awaited) → isBufferOf qt w ≡ true → w ≡ toBuffer qt (resourceIn w) (timestampIn w)
+is-buffer : (qt : ℕ) (w : Awaited) → isBufferOf qt w ≡ true → w ≡ toBuffer qt (resourceIn w) (awaitedTimestamp w)
 is-buffer qt (toBuffer q r ts) h = ap (λ (x : ℕ). toBuffer x r ts) (eqb-true q qt h)
 is-buffer qt toDrain h = never (sym h)
 
@@ -237,198 +237,198 @@ is-drain : (w : Awaited) → isDrain w ≡ true → w ≡ toDrain
 is-drain (toBuffer q r ts) h = never (sym h)
 is-drain toDrain h = refl
 
-module _ (p : Owed → Bool) where
-  -- a pending answer of a queue is owed to a buffer of it, and any other to a drain
-  count-queue : (qt : ℕ) (m : List Pending)
-      → count (λ x. p (owedOf x)) (keep (awaits (isBufferOf qt)) m) ≡ count (λ x. p (bufferOwed qt (bufferIn x))) (keep (awaits (isBufferOf qt)) m)
-  count-queue qt m = count-kept (λ x. p (owedOf x)) (λ x. p (bufferOwed qt (bufferIn x))) (awaits (isBufferOf qt)) (λ x h. ap (λ (w : Awaited). p (owed (x .ticket) w)) (is-buffer qt (x .awaited) h)) m
+module _ (p : Outstanding → Bool) where
+  -- a pending answer of a queue is the answer to a buffer of it, and any other to a drain
+  howMany-queue : (qt : ℕ) (m : List Pending)
+      → howMany (λ x. p (outstandingOf x)) (keep (awaits (isBufferOf qt)) m) ≡ howMany (λ x. p (bufferOutstanding qt (awaitedBuffer x))) (keep (awaits (isBufferOf qt)) m)
+  howMany-queue qt m = howMany-kept (λ x. p (outstandingOf x)) (λ x. p (bufferOutstanding qt (awaitedBuffer x))) (awaits (isBufferOf qt)) (λ x h. ap (λ (w : Awaited). p (outstanding (x .ticket) w)) (is-buffer qt (x .awaited) h)) m
 
-  count-drains : (m : List Pending) → count (λ x. p (owedOf x)) (keep (awaits isDrain) m) ≡ count (λ x. p (owed (x .ticket) toDrain)) (keep (awaits isDrain) m)
-  count-drains m = count-kept (λ x. p (owedOf x)) (λ x. p (owed (x .ticket) toDrain)) (awaits isDrain) (λ x h. ap (λ (w : Awaited). p (owed (x .ticket) w)) (is-drain (x .awaited) h)) m
+  howMany-drains : (m : List Pending) → howMany (λ x. p (outstandingOf x)) (keep (awaits isDrain) m) ≡ howMany (λ x. p (outstanding (x .ticket) toDrain)) (keep (awaits isDrain) m)
+  howMany-drains m = howMany-kept (λ x. p (outstandingOf x)) (λ x. p (outstanding (x .ticket) toDrain)) (awaits isDrain) (λ x h. ap (λ (w : Awaited). p (outstanding (x .ticket) w)) (is-drain (x .awaited) h)) m
 
   -- how much of a view passes a test
   abbrev inView : View → ℕ
-  inView v = count p (owedBuffers 0x100 (v .queued input)) + count p (owedBuffers 0x101 (v .queued output)) + count p (map (λ (t : ℕ). owed t toDrain) (v .drains))
+  inView v = howMany p (outstandingBuffers 0x100 (v .queued input)) + howMany p (outstandingBuffers 0x101 (v .queued output)) + howMany p (map (λ (t : ℕ). outstanding t toDrain) (v .drains))
 
-  count-buffers : (qt : ℕ) (l : List Buffer) → count p (owedBuffers qt (byResource l)) ≡ count p (owedBuffers qt l)
-  count-buffers qt l =
-      count-map p (bufferOwed qt) (byResource l) ∙ ascending-count (λ (i : Buffer). i .resource) l (λ i. p (bufferOwed qt i)) ∙ sym (count-map p (bufferOwed qt) l)
+  howMany-buffers : (qt : ℕ) (l : List Buffer) → howMany p (outstandingBuffers qt (byResource l)) ≡ howMany p (outstandingBuffers qt l)
+  howMany-buffers qt l =
+      howMany-map p (bufferOutstanding qt) (byResource l) ∙ ascending-howMany (λ (i : Buffer). i .resource) l (λ i. p (bufferOutstanding qt i)) ∙ sym (howMany-map p (bufferOutstanding qt) l)
 
-  by-ledger : (m : List Pending) → allOf (awaits known) m ≡ true → count p (map owedOf m) ≡ inView (viewOf m)
+  by-ledger : (m : List Pending) → allOf (awaits known) m ≡ true → howMany p (map outstandingOf m) ≡ inView (viewOf m)
   unfolding viewOf
   by-ledger m h =
       omega (
         arith,
-        count-map p owedOf m,
-        count-kinds (λ x. p (owedOf x)) m h,
+        howMany-map p outstandingOf m,
+        howMany-kinds (λ x. p (outstandingOf x)) m h,
         queue input,
         queue output,
-        count-drains m,
-        count-map (λ t. p (owed t toDrain)) (λ (x : Pending). x .ticket) (keep (awaits isDrain) m),
-        count-map p (λ (t : ℕ). owed t toDrain) (ticketsIn (keep (awaits isDrain) m)),
+        howMany-drains m,
+        howMany-map (λ t. p (outstanding t toDrain)) (λ (x : Pending). x .ticket) (keep (awaits isDrain) m),
+        howMany-map p (λ (t : ℕ). outstanding t toDrain) (ticketsIn (keep (awaits isDrain) m)),
       )
     where
-      queue : (q : QueueType) → count (λ x. p (owedOf x)) (keep (awaits (isBufferOf (queueNumber q))) m) ≡ count p (owedBuffers (queueNumber q) (buffersIn q m))
+      queue : (q : QueueType) → howMany (λ x. p (outstandingOf x)) (keep (awaits (isBufferOf (queueNumber q))) m) ≡ howMany p (outstandingBuffers (queueNumber q) (buffersIn q m))
       queue q =
           let mine = keep (awaits (isBufferOf (queueNumber q))) m in
-          count-queue (queueNumber q) m
-          ∙ sym (ascending-count (λ (x : Pending). resourceIn (x .awaited)) mine (λ x. p (bufferOwed (queueNumber q) (bufferIn x))))
-          ∙ sym (count-map (λ i. p (bufferOwed (queueNumber q) i)) bufferIn (byNumber mine))
-          ∙ sym (count-map p (bufferOwed (queueNumber q)) (buffersIn q m))
+          howMany-queue (queueNumber q) m
+          ∙ sym (ascending-howMany (λ (x : Pending). resourceIn (x .awaited)) mine (λ x. p (bufferOutstanding (queueNumber q) (awaitedBuffer x))))
+          ∙ sym (howMany-map (λ i. p (bufferOutstanding (queueNumber q) i)) awaitedBuffer (byNumber mine))
+          ∙ sym (howMany-map p (bufferOutstanding (queueNumber q)) (buffersIn q m))
 
-  by-record : (r : Option Stream) → inView (holding r) ≡ count p (owedIn r)
+  by-record : (r : Option Stream) → inView (holding r) ≡ howMany p (outstandingIn r)
   unfolding holding
   by-record none = refl
   by-record (some b) =
       omega (
         arith,
-        count-buffers 0x100 (queuedIn (b .inputs .slots)),
-        count-buffers 0x101 (queuedIn (b .outputs .slots)),
-        count-append p (owedBuffers 0x100 (queuedIn (b .inputs .slots))) (owedBuffers 0x101 (queuedIn (b .outputs .slots)) ++ owedDrain (b .draining)),
-        count-append p (owedBuffers 0x101 (queuedIn (b .outputs .slots))) (owedDrain (b .draining)),
+        howMany-buffers 0x100 (queuedIn (b .inputs .slots)),
+        howMany-buffers 0x101 (queuedIn (b .outputs .slots)),
+        howMany-append p (outstandingBuffers 0x100 (queuedIn (b .inputs .slots))) (outstandingBuffers 0x101 (queuedIn (b .outputs .slots)) ++ outstandingDrain (b .draining)),
+        howMany-append p (outstandingBuffers 0x101 (queuedIn (b .outputs .slots))) (outstandingDrain (b .draining)),
       )
 
-  agree-owes : (d : Device) (l : Ledger) (n : ℕ) → Agree d l → count p (owedTo n l) ≡ count p (owedIn (recordOf n (d .places)))
-  agree-owes d l n g = by-ledger (keep (to n) l) (all-keep (awaits known) (to n) l (g .knows)) ∙ ap inView (g .owes n) ∙ by-record (recordOf n (d .places))
+  agree-pending : (d : Device) (l : Ledger) (n : ℕ) → Agree d l → howMany p (outstandingTo n l) ≡ howMany p (outstandingIn (recordOf n (d .places)))
+  agree-pending d l n g = by-ledger (keep (isTo n) l) (all-keep (awaits known) (isTo n) l (g .knows)) ∙ ap inView (g .sameView n) ∙ by-record (recordOf n (d .places))
 
--- Each is answered once or owed once
+-- Each is answered once or pending once
 
-count-inOrder : (p : Pending → Bool) (l : List Pending) → allOf (awaits known) l ≡ true → count p (inOrder l) ≡ count p l
+howMany-inOrder : (p : Pending → Bool) (l : List Pending) → allOf (awaits known) l ≡ true → howMany p (inOrder l) ≡ howMany p l
 unfolding inOrder
-count-inOrder p l h =
+howMany-inOrder p l h =
     let ins = keep (awaits (isBufferOf 0x100)) l in
     let outs = keep (awaits (isBufferOf 0x101)) l in
     let drains = keep (awaits isDrain) l in
     omega (
       arith,
-      count-append p (byNumber ins) (byNumber outs ++ drains),
-      count-append p (byNumber outs) drains,
-      ascending-count (λ (x : Pending). resourceIn (x .awaited)) ins p,
-      ascending-count (λ (x : Pending). resourceIn (x .awaited)) outs p,
-      count-kinds p l h,
+      howMany-append p (byNumber ins) (byNumber outs ++ drains),
+      howMany-append p (byNumber outs) drains,
+      ascending-howMany (λ (x : Pending). resourceIn (x .awaited)) ins p,
+      ascending-howMany (λ (x : Pending). resourceIn (x .awaited)) outs p,
+      howMany-kinds p l h,
     )
 
 -- what a step adds
 abbrev new : ℕ → Act → Bool → List Pending
 new k a acc = cond acc (adds k a) []
 
-abbrev added : ℕ → List Entry → List Pending
+abbrev added : ℕ → List Event → List Pending
 added k [] = []
 added k (e ∷ es) = new k (e .step .act) (accepted e) ++ added (suc k) es
 
-count-after : (p : Pending → Bool) (k : ℕ) (a : Act) (z acc : Bool) (l : Ledger) → allOf (awaits known) l ≡ true
-    → count p (paid (fed k a z acc) l) + count p (ledgerAfter (fed k a z acc) l) ≡ count p (new k a acc) + count p l
-count-after p k a z false l h = refl
-count-after p k a z true l h =
+howMany-after : (p : Pending → Bool) (k : ℕ) (a : Act) (z acc : Bool) (l : Ledger) → allOf (awaits known) l ≡ true
+    → howMany p (completed (noted k a z acc) l) + howMany p (ledgerAfter (noted k a z acc) l) ≡ howMany p (new k a acc) + howMany p l
+howMany-after p k a z false l h = refl
+howMany-after p k a z true l h =
     omega (
       arith,
-      count-append p (adds k a) (keep (λ x. not (due a x)) l),
-      count-split p (due a) l,
-      count-inOrder p (keep (due a) l) (all-keep (awaits known) (due a) l h),
+      howMany-append p (adds k a) (keep (λ x. not (completedBy a x)) l),
+      howMany-split p (completedBy a) l,
+      howMany-inOrder p (keep (completedBy a) l) (all-keep (awaits known) (completedBy a) l h),
     )
 
--- every pending answer that is paid is reached by an answer
+-- every pending answer that is completed is reached by an answer
 reached-all : (ws : List Written) (ps : List Pending) (x : List ℕ) → tickets ws ≡ map (λ (p : Pending). p .ticket) ps ++ x → reached ws ps ≡ ps
 reached-all [] [] x h = refl
 reached-all [] (p ∷ ps) x h = cc
 reached-all (w ∷ ws) [] x h = refl
 reached-all (w ∷ ws) (p ∷ ps) x h = ap (λ r. p ∷ r) (reached-all ws ps x (tail-eq-of-cons-eq h))
 
--- the ledger of every entry knows its queues
-abbrev Knows : ℕ → Ledger → List Entry → Type 0
+-- the ledger of every event knows its queues
+abbrev Knows : ℕ → Ledger → List Event → Type 0
 Knows k l [] = Unit {0}
-Knows k l (e ∷ es) = (allOf (awaits known) l ≡ true) × Knows (suc k) (ledgerAfter (fedOf k e) l) es
+Knows k l (e ∷ es) = (allOf (awaits known) l ≡ true) × Knows (suc k) (ledgerAfter (notedOf k e) l) es
 
-all-know : (k : ℕ) (d : Device) (l : Ledger) (ss : List Step) → Agree d l → goodSteps ss ≡ true → Knows k l (entriesOf d ss)
+all-know : (k : ℕ) (d : Device) (l : Ledger) (ss : List Step) → Agree d l → goodSteps ss ≡ true → Knows k l (eventsOf d ss)
 all-know k d l [] g m = tt
 all-know k d l (s ∷ ss) g m = (
   g .knows,
-  all-know (suc k) (step d s .device) (ledgerAfter (fedOf k (entryOf s (step d s))) l) ss
-      (kept k d l s g (and-left (goodAct (s .act)) (goodSteps ss) m) .agree) (and-right (goodAct (s .act)) (goodSteps ss) m),
+  all-know (suc k) (stepOn d s .device) (ledgerAfter (notedOf k (eventOf s (stepOn d s))) l) ss
+      (event-read k d l s g (and-left (goodAct (s .act)) (goodSteps ss) m) .agree) (and-right (goodAct (s .act)) (goodSteps ss) m),
 )
 
-balance : (j k : ℕ) (l : Ledger) (es : List Entry) → AsExpected k l es → Knows k l es
-    → answersTo j k l es + count (ofStep j) (ledgerFrom k l es) ≡ count (ofStep j) (added k es) + count (ofStep j) l
+balance : (j k : ℕ) (l : Ledger) (es : List Event) → AsExpected k l es → Knows k l es
+    → answersTo j k l es + howMany (ofStep j) (ledgerFrom k l es) ≡ howMany (ofStep j) (added k es) + howMany (ofStep j) l
 balance j k l [] h w = refl
 balance j k l (e ∷ es) h w =
-    let s = fedOf k e in
+    let s = notedOf k e in
     omega (
       arith,
       balance j (suc k) (ledgerAfter s l) es (h .1) (w .1),
-      ap (count (ofStep j)) (reached-all (answersOf e) (paid s l) (ownTickets (s .act) (s .isZero) (s .accepted)) (h .0)),
-      count-after (ofStep j) k (s .act) (s .isZero) (s .accepted) l (w .0),
-      count-append (ofStep j) (new k (s .act) (s .accepted)) (added (suc k) es),
+      ap (howMany (ofStep j)) (reached-all (answersOf e) (completed s l) (ownTickets (s .act) (s .isZero) (s .accepted)) (h .0)),
+      howMany-after (ofStep j) k (s .act) (s .isZero) (s .accepted) l (w .0),
+      howMany-append (ofStep j) (new k (s .act) (s .accepted)) (added (suc k) es),
     )
 
 -- step numbers are each given once
 
-pending-other : (j k t n : ℕ) (w : Option Awaited) → (k ≡ j → ⊥) → count (ofStep j) (pending k t n w) ≡ 0
+pending-other : (j k t n : ℕ) (w : Option Awaited) → (k ≡ j → ⊥) → howMany (ofStep j) (pending k t n w) ≡ 0
 pending-other j k t n none h = refl
 pending-other j k t n (some w) h = simp (ne-eqb k j h)
 
-new-other : (j k : ℕ) (a : Act) (acc : Bool) → (k ≡ j → ⊥) → count (ofStep j) (new k a acc) ≡ 0
-new-other j k a true h = pending-other j k (ticketIn a) (streamIn a) (awaitedBy a) h
+new-other : (j k : ℕ) (a : Act) (acc : Bool) → (k ≡ j → ⊥) → howMany (ofStep j) (new k a acc) ≡ 0
+new-other j k a true h = pending-other j k (stepTicket a) (stepStream a) (awaitedBy a) h
 new-other j k a false h = refl
 
-added-later : (j k : ℕ) (es : List Entry) → j < k → count (ofStep j) (added k es) ≡ 0
+added-later : (j k : ℕ) (es : List Event) → j < k → howMany (ofStep j) (added k es) ≡ 0
 added-later j k [] h = refl
 added-later j k (e ∷ es) h =
     omega (
       arith,
-      count-append (ofStep j) (new k (e .step .act) (accepted e)) (added (suc k) es),
+      howMany-append (ofStep j) (new k (e .step .act) (accepted e)) (added (suc k) es),
       new-other j k (e .step .act) (accepted e) (λ q. omega arith),
       added-later j (suc k) es (omega arith),
     )
 
-pending-own : (k t n : ℕ) (w : Option Awaited) → isNone w ≡ false → count (ofStep k) (pending k t n w) ≡ 1
+pending-own : (k t n : ℕ) (w : Option Awaited) → isNone w ≡ false → howMany (ofStep k) (pending k t n w) ≡ 1
 pending-own k t n none h = never h
-pending-own k t n (some w) h = simp (eqb-refl k)
+pending-own k t n (some w) h = simp (eqb-same k)
 
-added-once : (j k : ℕ) (before later : List Entry) (e : Entry) → j ≡ k + length before → accepted e ≡ true → isNone (awaitedBy (e .step .act)) ≡ false
-    → count (ofStep j) (added k (before ++ e ∷ later)) ≡ 1
+added-once : (j k : ℕ) (before later : List Event) (e : Event) → j ≡ k + length before → accepted e ≡ true → isNone (awaitedBy (e .step .act)) ≡ false
+    → howMany (ofStep j) (added k (before ++ e ∷ later)) ≡ 1
 added-once j k [] later e i acc h =
     let a = e .step .act in
     let here : k ≡ j = omega arith in
-    let one : count (ofStep j) (new k a (accepted e)) ≡ 1 = simp acc (subst (λ (x : ℕ). count (ofStep x) (adds k a) ≡ 1) here (pending-own k (ticketIn a) (streamIn a) (awaitedBy a) h)) in
-    omega (arith, count-append (ofStep j) (new k a (accepted e)) (added (suc k) later), one, added-later j (suc k) later (omega arith))
+    let one : howMany (ofStep j) (new k a (accepted e)) ≡ 1 = simp acc (subst (λ (x : ℕ). howMany (ofStep x) (adds k a) ≡ 1) here (pending-own k (stepTicket a) (stepStream a) (awaitedBy a) h)) in
+    omega (arith, howMany-append (ofStep j) (new k a (accepted e)) (added (suc k) later), one, added-later j (suc k) later (omega arith))
 added-once j k (y ∷ before) later e i acc h =
     omega (
       arith,
-      count-append (ofStep j) (new k (y .step .act) (accepted y)) (added (suc k) (before ++ e ∷ later)),
+      howMany-append (ofStep j) (new k (y .step .act) (accepted y)) (added (suc k) (before ++ e ∷ later)),
       new-other j k (y .step .act) (accepted y) (λ q. omega arith),
       added-once j (suc k) before later e (omega arith) acc h,
     )
 
--- After a destruction nothing older of its stream is owed
+-- After a destruction nothing older of its stream is pending
 
 old-pending : (n j k t m : ℕ) (w : Option Awaited) → j ≤ k → keep (older n j) (pending k t m w) ≡ []
 old-pending n j k t m none h = refl
 old-pending n j k t m (some w) h = decide (eqb m n) (λ e. simp (e, le-ltb k j h)) (λ e. simp e)
 
-old-after : (n j k : ℕ) (a : Act) (z acc : Bool) (l : Ledger) → j ≤ k → keep (older n j) l ≡ [] → keep (older n j) (ledgerAfter (fed k a z acc) l) ≡ []
+old-after : (n j k : ℕ) (a : Act) (z acc : Bool) (l : Ledger) → j ≤ k → keep (older n j) l ≡ [] → keep (older n j) (ledgerAfter (noted k a z acc) l) ≡ []
 old-after n j k a z false l h e = e
 old-after n j k a z true l h e =
-    keep-append (older n j) (adds k a) (keep (λ x. not (due a x)) l)
-    ∙ ap₂ (λ (x y : List Pending). x ++ y) (old-pending n j k (ticketIn a) (streamIn a) (awaitedBy a) h)
-    (keep-comm (older n j) (λ x. not (due a x)) l ∙ ap (keep (λ x. not (due a x))) e)
+    keep-append (older n j) (adds k a) (keep (λ x. not (completedBy a x)) l)
+    ∙ ap₂ (λ (x y : List Pending). x ++ y) (old-pending n j k (stepTicket a) (stepStream a) (awaitedBy a) h)
+    (keep-comm (older n j) (λ x. not (completedBy a x)) l ∙ ap (keep (λ x. not (completedBy a x))) e)
 
-old-from : (n j k : ℕ) (l : Ledger) (es : List Entry) → j ≤ k → keep (older n j) l ≡ [] → keep (older n j) (ledgerFrom k l es) ≡ []
+old-from : (n j k : ℕ) (l : Ledger) (es : List Event) → j ≤ k → keep (older n j) l ≡ [] → keep (older n j) (ledgerFrom k l es) ≡ []
 old-from n j k l [] h e = e
 old-from n j k l (x ∷ es) h e =
-    old-from n j (suc k) (ledgerAfter (fedOf k x) l) es (omega arith) (old-after n j k (x .step .act) (eqb (x .refusal) 0) (accepted x) l h e)
+    old-from n j (suc k) (ledgerAfter (notedOf k x) l) es (omega arith) (old-after n j k (x .step .act) (eqb (x .refusal) 0) (accepted x) l h e)
 
 -- the ledger just after a destruction
-destroy-after : (j k t : ℕ) (f : List ℕ) (z : Bool) (l : Ledger) → field 4 f 0 ≡ 0x0102 → keep (older (field 4 f 4) j) (ledgerAfter (fed k (command t f) z true) l) ≡ []
-unfolding awaitedBy pays
+destroy-after : (j k t : ℕ) (f : List ℕ) (z : Bool) (l : Ledger) → field 4 f 0 ≡ 0x0102 → keep (older (field 4 f 4) j) (ledgerAfter (noted k (command t f) z true) l) ≡ []
+unfolding awaitedBy completes
 destroy-after j k t f z l e =
     simp e
     (keep-excluded (λ x. not (eqb (x .stream) (field 4 f 4) && true)) (older (field 4 f 4) j) (λ x h. decide (eqb (x .stream) (field 4 f 4)) (λ q. never (sym (simp q at h))) (λ q. simp q)) l)
 
-destroyed-from : (j k : ℕ) (l : Ledger) (before later : List Entry) (e : Entry) (t : ℕ) (f : List ℕ) → j ≡ k + length before → e .step .act ≡ command t f
+destroyed-from : (j k : ℕ) (l : Ledger) (before later : List Event) (e : Event) (t : ℕ) (f : List ℕ) → j ≡ k + length before → e .step .act ≡ command t f
     → field 4 f 0 ≡ 0x0102 → accepted e ≡ true → keep (older (field 4 f 4) j) (ledgerFrom k l (before ++ e ∷ later)) ≡ []
 destroyed-from j k l [] later e t f i a x acc =
-    old-from (field 4 f 4) j (suc k) (ledgerAfter (fedOf k e) l) later (omega arith) (simp (a, acc) (destroy-after j k t f (eqb (e .refusal) 0) l x))
-destroyed-from j k l (y ∷ before) later e t f i a x acc = destroyed-from j (suc k) (ledgerAfter (fedOf k y) l) before later e t f (omega arith) a x acc
+    old-from (field 4 f 4) j (suc k) (ledgerAfter (notedOf k e) l) later (omega arith) (simp (a, acc) (destroy-after j k t f (eqb (e .refusal) 0) l x))
+destroyed-from j k l (y ∷ before) later e t f i a x acc = destroyed-from j (suc k) (ledgerAfter (notedOf k y) l) before later e t f (omega arith) a x acc
 
 -- Condition 3
 
@@ -436,18 +436,18 @@ pub condition3 : OnDevices
 condition3 ss m =
     record {
       isolated = λ n. isolated n ss;
-      framed = all-framed fresh ss well-fresh m;
+      wholeAnswers = all-framed fresh ss well-fresh m;
       answered = as-expected 0 fresh [] ss agree-fresh m;
-      owes = λ n p. agree-owes p (final fresh ss) (ledgerOf (entriesOf fresh ss)) n (agrees 0 fresh [] ss agree-fresh m);
+      pendingExactly = λ n p. agree-pending p (final fresh ss) (ledgerOf (eventsOf fresh ss)) n (agree-end 0 fresh [] ss agree-fresh m);
       once = λ before later e split acc h.
           let j = length before in
           omega (
             arith,
-            balance j 0 [] (entriesOf fresh ss) (as-expected 0 fresh [] ss agree-fresh m) (all-know 0 fresh [] ss agree-fresh m),
-            ap (λ (es : List Entry). count (ofStep j) (added 0 es)) split,
+            balance j 0 [] (eventsOf fresh ss) (as-expected 0 fresh [] ss agree-fresh m) (all-know 0 fresh [] ss agree-fresh m),
+            ap (λ (es : List Event). howMany (ofStep j) (added 0 es)) split,
             added-once j 0 before later e (omega arith) acc h,
           );
       destroyed = λ before later e t f split a x acc.
-          subst (λ (es : List Entry). keep (older (field 4 f 4) (length before)) (ledgerOf es) ≡ []) (sym split)
+          subst (λ (es : List Event). keep (older (field 4 f 4) (length before)) (ledgerOf es) ≡ []) (sym split)
           (destroyed-from (length before) 0 [] before later e t f (omega arith) a x acc);
     }

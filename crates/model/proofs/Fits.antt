@@ -1,38 +1,38 @@
--- Each step of a stream keeps to the ledger: what its record owes after the step, the tickets of its answers, and that a step which is
+-- Each step of a stream keeps to the ledger: what is pending by its record after the step, the tickets of its answers, and that a step which is
 -- not accepted leaves the record alone.
 use Prim.Native.Nat.{ℕ}
 use mathlib.Core.Path.{_≡_, refl, sym, ap, _∙_, subst}
 use mathlib.Core.Bool.{Bool, true, false, cond, not, _&&_, _||_}
 use mathlib.Core.Option.{Option, none, some}
-use mathlib.Core.List.{List, [], _∷_, _++_, map, append-nil, append-assoc}
+use mathlib.Core.List.{List, [], _∷_, _++_, map, append-nil, append-assoc, map-append}
 use lib.ListN.{length}
 use lib.Dec.{eqb, ltb}
 use borrow.Author.Tests.{not-false}
 use Rattle.laws.specs.Lists.{keep, anyOf, isEmpty, toList}
-use Rattle.laws.specs.Ascending.{insert}
+use Rattle.laws.specs.Ascending.{insertBy}
 use Rattle.laws.proofs.Tests.{never}
-use Rattle.laws.proofs.Lists.{cond-elim, eqb-refl, eqb-sym, keep-ascending, keep-const, none-is, any-append, map-append, empty-is}
+use Rattle.laws.proofs.Lists.{cond-elim, eqb-same, eqb-sym, keep-ascending, keep-const, none-is, any-append, empty-is}
 use Rattle.field.specs.Field.{field}
 use Rattle.model.specs.Device.{QueueType, input, output, queued, dequeued, Queue, Stream, newStream, queueOf, withQueue, withDrain, withSlots, Buffer, queuedIn, byResource, buffers, bufferOf, present, addResource, setState, freeAll}
-use Rattle.model.specs.Frames.{QueueCommand, createResource, queueResource, destroyAll, clear, getParameters, setParameters, LiveCommand, destroy, drain, control, toQueue, create, live, CommandLine, commands, commandOf, wrongLength, queueNumber, queueNamed, codedFormat, resourceId, timestampSent}
+use Rattle.model.specs.Frames.{QueueCommand, createResource, queueResource, destroyAll, clear, getParameters, setParameters, LiveCommand, destroy, drain, control, toQueue, create, live, CommandRule, commands, commandOf, wrongLength, queueNumber, queueNamed, codedFormat, resourceId, timestampSent}
 use Rattle.model.specs.Answers.{ErrorCode, invalidOperation, invalidStream, invalidParameter, unsupportedControl, Response, success, bufferDone, drainDone, parameters, failure, Answer}
 use Rattle.model.specs.Replies.{Reply, refuse, reply, Request, own, fail}
-use Rattle.model.specs.Commands.{Surroundings, onCreate, stoppedAnswers, drainAnswers, onDestroy, onDrain, onCreateResource, onQueue, onDestroyAll, drainEnded, drainLeft, cleared, onClear, onGet, onSet, onQueueOf, onLive, onStream, onLine, onCommand}
+use Rattle.model.specs.Commands.{Surroundings, onCreate, stoppedAnswers, drainAnswers, onDestroy, onDrain, onCreateResource, onQueue, onDestroyAll, drainEnded, drainLeft, cleared, onClear, onGet, onSet, onQueueOf, onLive, onStream, onRule, onCommand}
 use Rattle.model.specs.Reports.{timestampOf, badEos, finishBuffer, finishQueue, finishStream, onFinish, endDrain, onDrained}
 use Rattle.model.specs.Steps.{Act, command, finish, drained, serve}
-use Rattle.model.specs.Ledger.{Awaited, toBuffer, toDrain, awaitedBy, isBufferOf, isDrain, resourceIn, pays, ticketIn, ownTickets}
+use Rattle.model.specs.Ledger.{Awaited, toBuffer, toDrain, awaitedBy, isBufferOf, isDrain, resourceIn, completes, stepTicket, ownTickets}
 use Rattle.model.proofs.Slots.{byRes, Distinct, queued-stop, queued-free, queued-add, queued-finish, queued-only, queued-more, isRes}
 use Rattle.model.proofs.Walk.{walk}
-use Rattle.model.proofs.Cases.{named-cases}
-use Rattle.model.proofs.Lines.{Each, each-line, by-type, named-number}
-use Rattle.model.proofs.LedgerView.{View, pick, bufferTickets, ticketsOf, viewAfter, ticketsPaid}
+use Rattle.model.proofs.Origins.{named-cases}
+use Rattle.model.proofs.Rules.{Each, each-rule, by-type, named-number}
+use Rattle.model.proofs.LedgerView.{View, pick, bufferTickets, ticketsOf, viewAfter, ticketsCompleted}
 
 -- resource numbers are distinct
 abbrev pub Sane : Option Stream → Type 0
 Sane none = Unit {0}
 Sane (some b) = Distinct (b .inputs .slots) × Distinct (b .outputs .slots)
 
--- what a record owes
+-- what is pending by a record
 unfoldable pub holding : Option Stream → View
 holding none = record { queued = λ q. []; drains = [] }
 holding (some b) = record { queued = λ q. buffers q b; drains = toList (b .draining) }
@@ -68,17 +68,17 @@ knownIf (some w) = known w
 abbrev pub answerTickets : List Answer → List ℕ
 answerTickets = map (λ (a : Answer). a .ticket)
 
--- a step of stream n with ticket t: p is what it pays if it is accepted, w what it adds, me the tickets of its own answer
+-- a step of stream n with ticket t: p is what it completes if it is accepted, w what it adds, me the tickets of its own answer
 pub record Fits (p : Awaited → Bool) (w : Option Awaited) (n t : ℕ) (me : Bool → Bool → List ℕ) (self : Option Stream) (v : Reply) : Type 0 where
   pub acc : Bool
   pub is : acceptedReply v ≡ acc
   pub held : holding (v .next) ≡ viewAfter p w t acc (holding self)
-  pub told : answerTickets (v .answers) ≡ ticketsPaid p acc (holding self) ++ me (eqb (v .refusal) 0) acc
+  pub told : answerTickets (v .answers) ≡ ticketsCompleted p acc (holding self) ++ me (eqb (v .refusal) 0) acc
   pub adds : acc ≡ true → knownIf w ≡ true
   pub rejected : acc ≡ false → Rejected n t self v
 
 abbrev me : ℕ → Bool → Bool → Bool → List ℕ
-me t later isZero acc = cond (isZero && not (acc && later)) (t ∷ []) []
+me t answersLater isZero acc = cond (isZero && not (acc && answersLater)) (t ∷ []) []
 
 abbrev nobody : Bool → Bool → List ℕ
 nobody isZero acc = []
@@ -89,9 +89,9 @@ refuse-fits : (p : Awaited → Bool) (w : Option Awaited) (n t k : ℕ) (self : 
 refuse-fits p w n t k self z =
     record { acc = false; is = simp z; held = refl; told = refl; adds = λ e. never (sym e); rejected = λ _. byHost k z }
 
-fail-fits : (p : Awaited → Bool) (w : Option Awaited) (c : Request) (later : Bool) (e : ErrorCode)
-    → Fits p w (c .stream) (c .ticket) (me (c .ticket) later) (c .self) (fail c e)
-fail-fits p w c later e =
+fail-fits : (p : Awaited → Bool) (w : Option Awaited) (c : Request) (answersLater : Bool) (e : ErrorCode)
+    → Fits p w (c .stream) (c .ticket) (me (c .ticket) answersLater) (c .self) (fail c e)
+fail-fits p w c answersLater e =
     record { acc = false; is = refl; held = refl; told = refl; adds = λ z. never (sym z); rejected = λ _. byError e }
 
 -- what the tests of a picked list come to
@@ -101,7 +101,7 @@ pick-all v = λ i. record { queued = λ q. keep-const true (v .queued q) i; drai
 pick-none : (v : View) → ticketsOf (pick (λ x. false) v) ≡ []
 pick-none v = simp (keep-const false (v .queued input), keep-const false (v .queued output))
 
--- one answer under the command's own ticket, and nothing owed more or less
+-- one answer under the command's own ticket, and nothing pending more or less
 quiet-fits : (n t : ℕ) (a : Answer) (self next : Option Stream) → a .ticket ≡ t → fails a ≡ false → holding next ≡ holding self
     → Fits (λ x. false) none n t (me t false) self (reply (a ∷ []) next)
 quiet-fits n t a self next k e h =
@@ -132,7 +132,7 @@ tickets-drain : (n : ℕ) (d : Option ℕ) → answerTickets (drainAnswers n d) 
 tickets-drain n none = refl
 tickets-drain n (some t) = refl
 
--- what is owed where one queue is changed: that queue's, and the other's as before
+-- what is pending where one queue is changed: that queue's, and the other's as before
 view-with : (q : QueueType) (x : Queue) (b : Stream) (g : QueueType → List Buffer) (d : List ℕ) → byResource (queuedIn (x .slots)) ≡ g q
     → ((o : QueueType) → eqb (queueNumber q) (queueNumber o) ≡ false → buffers o b ≡ g o) → toList (b .draining) ≡ d
     → holding (some (withQueue q x b)) ≡ record { queued = g; drains = d }
@@ -170,7 +170,7 @@ queue-fits q n t r ts b s p f =
       acc = true;
       is = refl;
       held = view-with q (withSlots (setState r (queued t ts) (queueOf q b .slots)) (queueOf q b)) b _ _
-          (simp (eqb-refl (queueNumber q), keep-const true (buffers q b)) (queued-more r t ts (queueOf q b .slots) (sane-of q b s) p f))
+          (simp (eqb-same (queueNumber q), keep-const true (buffers q b)) (queued-more r t ts (queueOf q b .slots) (sane-of q b s) p f))
           (λ o h. simp (h, keep-const true (buffers o b))) refl;
       told = simp (pick-none (holding (some b)));
       adds = λ _. known-queue q r ts;
@@ -248,7 +248,7 @@ abbrev finishes : ℕ → ℕ → Awaited → Bool
 finishes qt r x = isBufferOf qt x && eqb (resourceIn x) r
 
 one-of : (i : Buffer) → byResource (i ∷ []) ≡ i ∷ []
-unfolding insert
+unfolding insertBy
 one-of i = refl
 
 finish-told : (q : QueueType) (r : ℕ) (i : Buffer) (b : Stream) → Sane (some b) → bufferOf r (queuedIn (queueOf q b .slots)) ≡ some i
@@ -273,7 +273,7 @@ finish-fits q n r a i b s f k e =
       acc = true;
       is = simp e;
       held = view-with q (withSlots (setState r dequeued x) (queueOf q b)) b _ _
-          (simp (eqb-refl (queueNumber q)) (ap byResource (queued-finish r x) ∙ sym (keep-ascending byRes (λ y. not (isRes r y)) (queuedIn x))))
+          (simp (eqb-same (queueNumber q)) (ap byResource (queued-finish r x) ∙ sym (keep-ascending byRes (λ y. not (isRes r y)) (queuedIn x))))
           (λ o h. simp (eqb-sym (queueNumber q) (queueNumber o) h) (sym (keep-const true (buffers o b)))) refl;
       told = ap (λ (y : ℕ). y ∷ []) k ∙ finish-told q r i b s f ∙ sym (append-nil (ticketsOf (pick (finishes (queueNumber q) r) (holding (some b)))));
       adds = λ _. refl;
@@ -300,45 +300,45 @@ abbrev request : ℕ → ℕ → Option Stream → List ℕ → Request
 request n t self f = record { stream = n; ticket = t; frame = f; self = self }
 
 -- what the ledger makes of a command of type ty
-abbrev paysType : ℕ → List ℕ → Awaited → Bool
-paysType ty f w = eqb ty 0x0102 || (eqb ty 0x0107 && clears (field 4 f 8) w)
+abbrev completesType : ℕ → List ℕ → Awaited → Bool
+completesType ty f w = eqb ty 0x0102 || (eqb ty 0x0107 && clears (field 4 f 8) w)
 
 abbrev awaitedType : ℕ → List ℕ → Option Awaited
 awaitedType ty f = cond (eqb ty 0x0105) (some (toBuffer (field 4 f 8) (field 4 f 12) (field 8 f 16))) (cond (eqb ty 0x0103) (some toDrain) none)
 
-abbrev later : ℕ → Bool
-later ty = eqb ty 0x0105 || eqb ty 0x0103
+abbrev answersLater : ℕ → Bool
+answersLater ty = eqb ty 0x0105 || eqb ty 0x0103
 
 abbrev FitsType : ℕ → ℕ → ℕ → List ℕ → Option Stream → Reply → Type 0
-FitsType ty n t f self v = Fits (paysType ty f) (awaitedType ty f) n t (me t (later ty)) self v
+FitsType ty n t f self v = Fits (completesType ty f) (awaitedType ty f) n t (me t (answersLater ty)) self v
 
 fail-type : (ty n t : ℕ) (f : List ℕ) (self : Option Stream) (e : ErrorCode) → FitsType ty n t f self (fail (request n t self f) e)
-fail-type ty n t f self e = fail-fits (paysType ty f) (awaitedType ty f) (request n t self f) (later ty) e
+fail-type ty n t f self e = fail-fits (completesType ty f) (awaitedType ty f) (request n t self f) (answersLater ty) e
 
 module _ (n t : ℕ) (f : List ℕ) (b : Stream) (s : Sane (some b)) where
-  abbrev Live : ℕ → Reply → Type 0
-  Live ty v = FitsType ty n t f (some b) v
+  abbrev FitsLive : ℕ → Reply → Type 0
+  FitsLive ty v = FitsType ty n t f (some b) v
 
   abbrev c : Request
   c = request n t (some b) f
 
-  bad : (ty : ℕ) (e : ErrorCode) → Live ty (fail c e)
+  bad : (ty : ℕ) (e : ErrorCode) → FitsLive ty (fail c e)
   bad ty e = fail-type ty n t f (some b) e
 
   -- a command to the queue that it names
-  in-queue : (ty : ℕ) (k : QueueCommand) → ((q : QueueType) → queueNamed (field 4 f 8) ≡ some q → Live ty (onQueueOf k c b q)) → Live ty (onLive (toQueue k) c b)
-  in-queue ty k h = named-cases (Live ty) k c b (bad ty invalidParameter) h
+  in-queue : (ty : ℕ) (k : QueueCommand) → ((q : QueueType) → queueNamed (field 4 f 8) ≡ some q → FitsLive ty (onQueueOf k c b q)) → FitsLive ty (onLive (toQueue k) c b)
+  in-queue ty k h = named-cases (FitsLive ty) k c b (bad ty invalidParameter) h
 
-  queued-live : Live 0x0105 (onLive (toQueue queueResource) c b)
+  queued-live : FitsLive 0x0105 (onLive (toQueue queueResource) c b)
   unfolding onQueue
   queued-live =
-      in-queue 0x0105 queueResource (λ q e. walk (Live 0x0105) c _ (bad 0x0105) (λ h₁ h₂ h₃ h₄ h₅.
+      in-queue 0x0105 queueResource (λ q e. walk (FitsLive 0x0105) c _ (bad 0x0105) (λ h₁ h₂ h₃ h₄ h₅.
       subst (λ (x : ℕ). Fits (λ w. false) (some (toBuffer x (resourceId f) (timestampSent f))) n t (me t true) (some b)
       (reply [] (some (withQueue q (withSlots (setState (resourceId f) (queued t (timestampSent f)) (queueOf q b .slots)) (queueOf q b)) b))))
       (sym (named-number (field 4 f 8) q e))
       (queue-fits q n t (resourceId f) (timestampSent f) b s (not-false _ h₄) (none-is _ (not-false _ h₅)))))
 
-  cleared-live : Live 0x0107 (onLive (toQueue clear) c b)
+  cleared-live : FitsLive 0x0107 (onLive (toQueue clear) c b)
   unfolding onClear
   cleared-live =
       in-queue 0x0107 clear (λ q e.
@@ -346,41 +346,41 @@ module _ (n t : ℕ) (f : List ℕ) (b : Stream) (s : Sane (some b)) where
       (reply (stoppedAnswers n q (buffers q b) ++ (drainAnswers n (drainEnded q b) ++ own c success ∷ [])) (some (withQueue q (cleared (queueOf q b)) (withDrain (drainLeft q b) b)))))
       (sym (named-number (field 4 f 8) q e)) (clear-fits q n t b))
 
-  -- a command that neither adds nor pays changes one queue at most, and not what is Queued in it
+  -- a command that neither adds nor completes anything changes one queue at most, and not what is Queued in it
   quiet : (q : QueueType) (x : Queue) → queuedIn (x .slots) ≡ queuedIn (queueOf q b .slots)
       → Fits (λ w. false) none n t (me t false) (some b) (reply (own c success ∷ []) (some (withQueue q x b)))
   quiet q x h = quiet-fits n t (own c success) (some b) (some (withQueue q x b)) refl refl (same-queued q x b h)
 
-  resource-live : Live 0x0104 (onLive (toQueue createResource) c b)
+  resource-live : FitsLive 0x0104 (onLive (toQueue createResource) c b)
   unfolding onCreateResource
   resource-live =
-      in-queue 0x0104 createResource (λ q e. walk (Live 0x0104) c _ (bad 0x0104) (λ h₁ h₂ h₃ h₄ h₅ h₆ h₇.
+      in-queue 0x0104 createResource (λ q e. walk (FitsLive 0x0104) c _ (bad 0x0104) (λ h₁ h₂ h₃ h₄ h₅ h₆ h₇.
       let x = queueOf q b .slots in
       quiet q (withSlots (addResource (resourceId f) x) (queueOf q b)) (queued-add (resourceId f) x)))
 
-  freed-live : Live 0x0106 (onLive (toQueue destroyAll) c b)
+  freed-live : FitsLive 0x0106 (onLive (toQueue destroyAll) c b)
   unfolding onDestroyAll
   freed-live =
-      in-queue 0x0106 destroyAll (λ q e. walk (Live 0x0106) c _ (bad 0x0106) (λ h.
+      in-queue 0x0106 destroyAll (λ q e. walk (FitsLive 0x0106) c _ (bad 0x0106) (λ h.
       let x = queueOf q b .slots in
       quiet q (withSlots (freeAll x) (queueOf q b)) (queued-free x ∙ sym (empty-is _ (not-false _ h)))))
 
-  got-live : Live 0x0108 (onLive (toQueue getParameters) c b)
+  got-live : FitsLive 0x0108 (onLive (toQueue getParameters) c b)
   unfolding onGet
   got-live = in-queue 0x0108 getParameters (λ q e. quiet-fits n t (own c (parameters _)) (some b) (some b) refl refl refl)
 
-  set-live : Live 0x0109 (onLive (toQueue setParameters) c b)
+  set-live : FitsLive 0x0109 (onLive (toQueue setParameters) c b)
   unfolding onSet
-  set-live = in-queue 0x0109 setParameters (λ q e. walk (Live 0x0109) c _ (bad 0x0109) (λ h₁ h₂ h₃ h₄. quiet q _ refl))
+  set-live = in-queue 0x0109 setParameters (λ q e. walk (FitsLive 0x0109) c _ (bad 0x0109) (λ h₁ h₂ h₃ h₄. quiet q _ refl))
 
-  drain-live : Live 0x0103 (onDrain c b)
+  drain-live : FitsLive 0x0103 (onDrain c b)
   unfolding onDrain
-  drain-live = walk (Live 0x0103) c _ (bad 0x0103) (λ h. drain-fits n t b (none-is _ (not-false _ h)))
+  drain-live = walk (FitsLive 0x0103) c _ (bad 0x0103) (λ h. drain-fits n t b (none-is _ (not-false _ h)))
 
--- a new stream owes nothing
-new-owes : (format : ℕ) → holding (some (newStream format)) ≡ holding none
+-- nothing is pending of a new stream
+new-pends : (format : ℕ) → holding (some (newStream format)) ≡ holding none
 unfolding holding
-new-owes format = λ i. record { queued = λ q. nothing q i; drains = [] }
+new-pends format = λ i. record { queued = λ q. nothing q i; drains = [] }
   where
     nothing : (q : QueueType) → buffers q (newStream format) ≡ []
     nothing input = refl
@@ -390,58 +390,58 @@ create-fits : (around : Surroundings) (n t : ℕ) (f : List ℕ) → FitsType 0x
 unfolding onCreate
 create-fits around n t f =
     walk (FitsType 0x0101 n t f none) (request n t none f) _ (λ e. fail-type 0x0101 n t f none e)
-    (λ h₁ h₂ h₃ h₄ h₅. quiet-fits n t (own (request n t none f) success) none (some (newStream (codedFormat f))) refl refl (new-owes (codedFormat f)))
+    (λ h₁ h₂ h₃ h₄ h₅. quiet-fits n t (own (request n t none f) success) none (some (newStream (codedFormat f))) refl refl (new-pends (codedFormat f)))
 
 module _ (around : Surroundings) (n t : ℕ) (f : List ℕ) where
-  abbrev OfLine : Option Stream → ℕ → Option CommandLine → Type 0
-  OfLine self ty l = FitsType ty n t f self (onLine around (request n t self f) l)
+  abbrev OfRule : Option Stream → ℕ → Option CommandRule → Type 0
+  OfRule self ty l = FitsType ty n t f self (onRule around (request n t self f) l)
 
-  -- a line, by its length
-  line : (self : Option Stream) (l : CommandLine) → FitsType (l .type) n t f self (onStream around (request n t self f) (l .command) self)
-      → OfLine self (l .type) (some l)
-  line self l h = cond-elim (FitsType (l .type) n t f self) (wrongLength (l .rule) (length f)) (λ _. fail-type (l .type) n t f self invalidParameter) (λ _. h)
+  -- a rule, by its length
+  of-rule : (self : Option Stream) (l : CommandRule) → FitsType (l .type) n t f self (onStream around (request n t self f) (l .command) self)
+      → OfRule self (l .type) (some l)
+  of-rule self l h = cond-elim (FitsType (l .type) n t f self) (wrongLength (l .lengthRule) (length f)) (λ _. fail-type (l .type) n t f self invalidParameter) (λ _. h)
 
-  create-line : (self : Option Stream) → FitsType 0x0101 n t f self (onStream around (request n t self f) create self)
-  create-line none = create-fits around n t f
-  create-line (some b) = fail-type 0x0101 n t f (some b) invalidStream
+  create-rule : (self : Option Stream) → FitsType 0x0101 n t f self (onStream around (request n t self f) create self)
+  create-rule none = create-fits around n t f
+  create-rule (some b) = fail-type 0x0101 n t f (some b) invalidStream
 
-  live-line : (ty : ℕ) (k : LiveCommand) (self : Option Stream) → Sane self
+  live-rule : (ty : ℕ) (k : LiveCommand) (self : Option Stream) → Sane self
       → ((b : Stream) → Sane (some b) → FitsType ty n t f (some b) (onLive k (request n t (some b) f) b)) → FitsType ty n t f self (onStream around (request n t self f) (live k) self)
-  live-line ty k none s h = fail-type ty n t f none invalidStream
-  live-line ty k (some b) s h = h b s
+  live-rule ty k none s h = fail-type ty n t f none invalidStream
+  live-rule ty k (some b) s h = h b s
 
   unsupported : (ty : ℕ) (b : Stream) → Sane (some b) → FitsType ty n t f (some b) (fail (request n t (some b) f) unsupportedControl)
   unsupported ty b s = fail-type ty n t f (some b) unsupportedControl
 
   -- by the table of commands
-  OfStream : Option Stream → CommandLine → Type 0
+  OfStream : Option Stream → CommandRule → Type 0
   OfStream self l = FitsType (l .type) n t f self (onStream around (request n t self f) (l .command) self)
 
   streams : (self : Option Stream) (s : Sane self) → Each (OfStream self) commands
   unfolding OfStream
   streams self s = (
-    create-line self,
+    create-rule self,
     (
-      live-line 0x0102 destroy self s (λ b _. destroy-fits (request n t (some b) f) b),
+      live-rule 0x0102 destroy self s (λ b _. destroy-fits (request n t (some b) f) b),
       (
-        live-line 0x0103 drain self s (drain-live n t f),
+        live-rule 0x0103 drain self s (drain-live n t f),
         (
-          live-line 0x0104 (toQueue createResource) self s (resource-live n t f),
+          live-rule 0x0104 (toQueue createResource) self s (resource-live n t f),
           (
-            live-line 0x0105 (toQueue queueResource) self s (queued-live n t f),
+            live-rule 0x0105 (toQueue queueResource) self s (queued-live n t f),
             (
-              live-line 0x0106 (toQueue destroyAll) self s (freed-live n t f),
+              live-rule 0x0106 (toQueue destroyAll) self s (freed-live n t f),
               (
-                live-line 0x0107 (toQueue clear) self s (cleared-live n t f),
+                live-rule 0x0107 (toQueue clear) self s (cleared-live n t f),
                 (
-                  live-line 0x0108 (toQueue getParameters) self s (got-live n t f),
+                  live-rule 0x0108 (toQueue getParameters) self s (got-live n t f),
                   (
-                    live-line 0x0109 (toQueue setParameters) self s (set-live n t f),
+                    live-rule 0x0109 (toQueue setParameters) self s (set-live n t f),
                     (
-                      live-line 0x010A control self s (unsupported 0x010A),
+                      live-rule 0x010A control self s (unsupported 0x010A),
                       (
-                        live-line 0x010B control self s (unsupported 0x010B),
-                        (live-line 0x010C control self s (unsupported 0x010C), tt),
+                        live-rule 0x010B control self s (unsupported 0x010B),
+                        (live-rule 0x010C control self s (unsupported 0x010C), tt),
                       ),
                     ),
                   ),
@@ -454,40 +454,40 @@ module _ (around : Surroundings) (n t : ℕ) (f : List ℕ) where
     ),
   )
 
-  command-fits : (self : Option Stream) → Sane self → (ty : ℕ) → OfLine self ty (commandOf ty)
+  command-fits : (self : Option Stream) → Sane self → (ty : ℕ) → OfRule self ty (commandOf ty)
   unfolding OfStream
-  command-fits self s = by-type (OfLine self) (each-line (OfStream self) (λ l. OfLine self (l .type) (some l)) (line self) commands (streams self s)) (λ ty. fail-type ty n t f self invalidOperation)
+  command-fits self s = by-type (OfRule self) (each-rule (OfStream self) (λ l. OfRule self (l .type) (some l)) (of-rule self) commands (streams self s)) (λ ty. fail-type ty n t f self invalidOperation)
 
 -- Reports
 
 module _ (n qt r flags ts : ℕ) where
-  abbrev Finish : Option Stream → Reply → Type 0
-  Finish self v = Fits (finishes qt r) none n 0 nobody self v
+  abbrev FinishFits : Option Stream → Reply → Type 0
+  FinishFits self v = Fits (finishes qt r) none n 0 nobody self v
 
-  not-finished : (self : Option Stream) (k : ℕ) → eqb k 0 ≡ false → Finish self (refuse k self)
+  not-finished : (self : Option Stream) (k : ℕ) → eqb k 0 ≡ false → FinishFits self (refuse k self)
   not-finished self k z = refuse-fits (finishes qt r) none n 0 k self z
 
-  finish-queue : (b : Stream) → Sane (some b) → (o : Option QueueType) → queueNamed qt ≡ o → Finish (some b) (finishQueue n r flags ts b o)
+  finish-queue : (b : Stream) → Sane (some b) → (o : Option QueueType) → queueNamed qt ≡ o → FinishFits (some b) (finishQueue n r flags ts b o)
   finish-queue b s none e = not-finished (some b) 5 refl
   finish-queue b s (some q) e = found (bufferOf r (queuedIn (queueOf q b .slots))) refl
     where
-      found : (x : Option Buffer) → bufferOf r (queuedIn (queueOf q b .slots)) ≡ x → Finish (some b) (finishBuffer n r flags ts b q x)
+      found : (x : Option Buffer) → bufferOf r (queuedIn (queueOf q b .slots)) ≡ x → FinishFits (some b) (finishBuffer n r flags ts b q x)
       found none h = not-finished (some b) 5 refl
       found (some i) h =
-          cond-elim (Finish (some b)) (badEos flags q b) (λ _. not-finished (some b) 6 refl)
+          cond-elim (FinishFits (some b)) (badEos flags q b) (λ _. not-finished (some b) 6 refl)
           (λ _. subst (λ (x : ℕ). Fits (finishes x r) none n 0 nobody (some b)
           (reply (record { ticket = i .ticket; stream = n; response = bufferDone q (timestampOf q i ts) flags } ∷ [])
           (some (withQueue q (withSlots (setState r dequeued (queueOf q b .slots)) (queueOf q b)) b))))
           (sym (named-number qt q e))
           (finish-fits q n r (record { ticket = i .ticket; stream = n; response = bufferDone q (timestampOf q i ts) flags }) i b s h refl refl))
 
-  finish-stream : (self : Option Stream) → Sane self → Finish self (finishStream n qt r flags ts self)
+  finish-stream : (self : Option Stream) → Sane self → FinishFits self (finishStream n qt r flags ts self)
   finish-stream none s = not-finished none 5 refl
   finish-stream (some b) s = finish-queue b s (queueNamed qt) refl
 
-  finished : (self : Option Stream) → Sane self → Finish self (onFinish n qt r flags ts self)
+  finished : (self : Option Stream) → Sane self → FinishFits self (onFinish n qt r flags ts self)
   unfolding onFinish
-  finished self s = cond-elim (Finish self) (ltb 3 flags) (λ _. not-finished self 6 refl) (λ _. finish-stream self s)
+  finished self s = cond-elim (FinishFits self) (ltb 3 flags) (λ _. not-finished self 6 refl) (λ _. finish-stream self s)
 
 drained-in : (n : ℕ) (self : Option Stream) → Fits isDrain none n 0 nobody self (onDrained n self)
 unfolding onDrained
@@ -503,10 +503,10 @@ drained-in n (some b) = owing (b .draining) refl
 -- Every step
 
 abbrev pub FitsAct : ℕ → Act → Option Stream → Reply → Type 0
-FitsAct n a = Fits (pays a) (awaitedBy a) n (ticketIn a) (ownTickets a)
+FitsAct n a = Fits (completes a) (awaitedBy a) n (stepTicket a) (ownTickets a)
 
 pub serve-fits : (around : Surroundings) (n : ℕ) (self : Option Stream) (a : Act) → Sane self → FitsAct n a self (serve around n self a)
-unfolding serve pays awaitedBy ownTickets onCommand
+unfolding serve completes awaitedBy ownTickets onCommand
 serve-fits around n self (command t f) s = command-fits around n t f self s (field 4 f 0)
 serve-fits around n self (finish m qt r flags ts) s = finished n qt r flags ts self s
 serve-fits around n self (drained m) s = drained-in n self

@@ -8,22 +8,22 @@ use mathlib.Core.List.{List, [], _∷_}
 use lib.ListN.{length}
 use lib.Dec.{eqb}
 use Rattle.laws.specs.Tests.{within}
-use Rattle.laws.specs.Lists.{count}
+use Rattle.laws.specs.Lists.{howMany}
 use Rattle.laws.proofs.Tests.{never}
 use Rattle.laws.proofs.Lists.{decide}
 use Rattle.field.specs.Field.{field, littleEndian}
 use Rattle.tag.specs.Tag.{createType, createLength, goodTag, tagIn}
 use Rattle.model.specs.Numbers.{firstCoded, lastCoded}
 use Rattle.model.specs.Device.{Stream, Place, vacant, occupied, recordOf, noPlace}
-use Rattle.model.specs.Frames.{create, exactly, CommandLine, _is_ofLength_, commandOf, wrongLength, commandType, inMemType, outMemType, codedFormat}
+use Rattle.model.specs.Frames.{create, exactly, CommandRule, _is_ofLength_, commandOf, wrongLength, commandType, inMemType, outMemType, codedFormat}
 use Rattle.model.specs.Answers.{invalidOperation, invalidParameter, responseBytes, readFrom}
-use Rattle.model.specs.Replies.{Reply, Request, fail, first}
-use Rattle.model.specs.Commands.{Surroundings, withFull, onCreate, onStream, onLine, onCommand}
-use Rattle.model.specs.Steps.{Act, command, finish, drained, serve, Outcome, around, entryOf, isCreation, outOfMemoryAt}
+use Rattle.model.specs.Replies.{Reply, Request, fail, byTests}
+use Rattle.model.specs.Commands.{Surroundings, withFull, onCreate, onStream, onRule, onCommand}
+use Rattle.model.specs.Steps.{Act, command, finish, drained, serve, DeviceReply, around, eventOf, isCreation, outOfMemoryAt}
 use Rattle.model.specs.Promises.{isLive, FullAtEight}
-use Rattle.model.proofs.Lines.{by-type}
+use Rattle.model.proofs.Rules.{by-type}
 use Rattle.model.proofs.WellFormed.{well-places}
-use Rattle.model.proofs.Cases.{step-cases}
+use Rattle.model.proofs.Origins.{step-cases}
 use Rattle.model.proofs.Isolation.{notFull, tellsFull}
 
 abbrev Quiet : Reply → Type 0
@@ -31,7 +31,7 @@ Quiet v = tellsFull v ≡ false
 
 -- no other error says so, and where a place is vacant a creation does not
 create-quiet : (around : Surroundings) (c : Request) → Quiet (onCreate (notFull around) c)
-unfolding onCreate first readFrom responseBytes littleEndian field
+unfolding onCreate byTests readFrom responseBytes littleEndian field
 create-quiet around c =
     let f = c .frame in
     decide (not (eqb (inMemType f) 0)) (λ e. simp e refl) (λ e₁.
@@ -52,13 +52,13 @@ unknown-quiet : (c : Request) → Quiet (fail c invalidOperation)
 unfolding readFrom responseBytes littleEndian field
 unknown-quiet c = refl
 
-line-quiet : (around : Surroundings) (c : Request) (l : CommandLine) → l .command ≡ create → Quiet (onLine (notFull around) c (some l))
+line-quiet : (around : Surroundings) (c : Request) (l : CommandRule) → l .command ≡ create → Quiet (onRule (notFull around) c (some l))
 line-quiet around c l e =
-    decide (wrongLength (l .rule) (length (c .frame))) (λ w. simp w (length-quiet c)) (λ w. simp (w, e) (stream-quiet around c (c .self)))
+    decide (wrongLength (l .lengthRule) (length (c .frame))) (λ w. simp w (length-quiet c)) (λ w. simp (w, e) (stream-quiet around c (c .self)))
 
-command-quiet : (around : Surroundings) (c : Request) (ty : ℕ) → (eqb ty 0x0101 && tellsFull (onLine (notFull around) c (commandOf ty))) ≡ false
+command-quiet : (around : Surroundings) (c : Request) (ty : ℕ) → (eqb ty 0x0101 && tellsFull (onRule (notFull around) c (commandOf ty))) ≡ false
 command-quiet around c =
-    by-type (λ ty l. (eqb ty 0x0101 && tellsFull (onLine (notFull around) c l)) ≡ false) (
+    by-type (λ ty l. (eqb ty 0x0101 && tellsFull (onRule (notFull around) c l)) ≡ false) (
       line-quiet around c (createType is create ofLength exactly createLength) refl,
       (refl, (refl, (refl, (refl, (refl, (refl, (refl, (refl, (refl, (refl, (refl, tt))))))))))),
     )
@@ -72,7 +72,7 @@ act-quiet around n self (drained m) = refl
 
 -- so a step that says so found no place
 
-all-live : (ps : List Place) → noPlace ps ≡ true → count isLive ps ≡ length ps
+all-live : (ps : List Place) → noPlace ps ≡ true → howMany isLive ps ≡ length ps
 all-live [] h = refl
 all-live (vacant ∷ ps) h = never (sym h)
 all-live (occupied n b ∷ ps) h = omega (arith, all-live ps h)
@@ -80,7 +80,7 @@ all-live (occupied n b ∷ ps) h = omega (arith, all-live ps h)
 pub full-at-eight : FullAtEight
 unfolding outOfMemoryAt readFrom
 full-at-eight d s h =
-    step-cases (λ (o : Outcome). outOfMemoryAt (entryOf s o) ≡ true → count isLive (d .places) ≡ 8) d s
+    step-cases (λ (o : DeviceReply). outOfMemoryAt (eventOf s o) ≡ true → howMany isLive (d .places) ≡ 8) d s
     (λ k e. never (sym e ∙ and-false (isCreation (s .act))))
     (λ n _ e. let self = recordOf n (d .places) in
     decide (noPlace (d .places)) (λ f. all-live (d .places) f ∙ (well-places d h) .size)

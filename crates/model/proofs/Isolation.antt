@@ -10,24 +10,24 @@ use borrow.Author.Tests.{eqb-true}
 use Rattle.laws.specs.Tests.{within}
 use Rattle.laws.specs.Lists.{anyOf}
 use Rattle.laws.proofs.Tests.{never}
-use Rattle.laws.proofs.Lists.{decide, cond-elim, eqb-refl, any-head, any-tail, none-is}
+use Rattle.laws.proofs.Lists.{decide, cond-elim, eqb-same, any-head, any-tail, none-is}
 use Rattle.field.specs.Field.{field, littleEndian}
 use Rattle.tag.specs.Tag.{goodTag, tagIn}
 use Rattle.model.specs.Numbers.{tableWords, firstCoded, lastCoded}
-use Rattle.model.specs.Device.{Stream, Place, vacant, Device, fresh, recordOf, noPlace, place, put, withPlaces}
-use Rattle.model.specs.Frames.{LiveCommand, Command, create, live, CommandLine, commands, commandOf, wrongLength, commandType, inMemType, outMemType, codedFormat}
+use Rattle.model.specs.Device.{Stream, Place, vacant, Device, fresh, recordOf, noPlace, place, putRecord, withPlaces}
+use Rattle.model.specs.Frames.{LiveCommand, Command, create, live, CommandRule, commands, commandOf, wrongLength, commandType, inMemType, outMemType, codedFormat}
 use Rattle.model.specs.Answers.{outOfMemory, bytesOf, responseBytes, readFrom, answersIn}
-use Rattle.model.specs.Replies.{Reply, Request, fail, first}
-use Rattle.model.specs.Commands.{Surroundings, withFull, onCreate, onStream, onLine, onCommand}
+use Rattle.model.specs.Replies.{Reply, Request, fail, byTests}
+use Rattle.model.specs.Commands.{Surroundings, withFull, onCreate, onStream, onRule, onCommand}
 use Rattle.model.specs.Reports.{onFinish, onDrained}
-use Rattle.model.specs.Steps.{Act, command, finish, drained, Step, streamOf, serve, Outcome, refused, around, performOf, perform, hostRefusal, step, Entry, entryOf, entriesOf, final, isOwner, ownerOf, belongs, isCreation, saysFull, outOfMemoryAt}
-use Rattle.model.specs.Condition3.{ownEntries, stepsOf}
+use Rattle.model.specs.Steps.{Act, command, finish, drained, Step, streamOf, serve, DeviceReply, refused, around, performOf, perform, hostRefusal, stepOn, Event, eventOf, eventsOf, final, isOwner, ownerOf, belongs, isCreation, saysFull, outOfMemoryAt}
+use Rattle.model.specs.Condition3.{ownEvents, stepsOf}
 use Rattle.model.proofs.Places.{put-same, put-other}
 use Rattle.model.proofs.Walk.{walk}
-use Rattle.model.proofs.Lines.{each-line, by-type}
+use Rattle.model.proofs.Rules.{each-rule, by-type}
 
-abbrev full : Surroundings → Surroundings
-full around = withFull true around
+abbrev withFullness : Surroundings → Surroundings
+withFullness around = withFull true around
 
 abbrev pub notFull : Surroundings → Surroundings
 notFull around = withFull false around
@@ -37,16 +37,16 @@ notFull around = withFull false around
 abbrev StaysNone : Reply → Type 0
 StaysNone v = v .next ≡ none
 
-request-next : (around : Surroundings) (n t : ℕ) (f : List ℕ) (l : Option CommandLine) → StaysNone (onLine (full around) (record { stream = n; ticket = t; frame = f; self = none }) l)
+request-next : (around : Surroundings) (n t : ℕ) (f : List ℕ) (l : Option CommandRule) → StaysNone (onRule (withFullness around) (record { stream = n; ticket = t; frame = f; self = none }) l)
 unfolding onCreate
 request-next around n t f none = refl
-request-next around n t f (some l) = cond-elim StaysNone (wrongLength (l .rule) (length f)) (λ _. refl) (λ _. of (l .command))
+request-next around n t f (some l) = cond-elim StaysNone (wrongLength (l .lengthRule) (length f)) (λ _. refl) (λ _. of (l .command))
   where
-    of : (x : Command) → StaysNone (onStream (full around) (record { stream = n; ticket = t; frame = f; self = none }) x none)
+    of : (x : Command) → StaysNone (onStream (withFullness around) (record { stream = n; ticket = t; frame = f; self = none }) x none)
     of create = walk StaysNone (record { stream = n; ticket = t; frame = f; self = none }) _ (λ e. refl) (λ h₁ h₂ h₃ h₄ h₅. never h₅)
     of (live k) = refl
 
-serve-next : (around : Surroundings) (n : ℕ) (a : Act) → StaysNone (serve (full around) n none a)
+serve-next : (around : Surroundings) (n : ℕ) (a : Act) → StaysNone (serve (withFullness around) n none a)
 unfolding serve onCommand onFinish onDrained
 serve-next around n (command t f) = request-next around n t f (commandOf (commandType f))
 serve-next around n (finish m qt r flags ts) = cond-elim StaysNone (ltb 3 flags) (λ _. refl) (λ _. refl)
@@ -61,8 +61,8 @@ full-tells : (c : Request) → tellsFull (fail c outOfMemory) ≡ true
 unfolding readFrom responseBytes littleEndian field
 full-tells c = refl
 
-create-full : (around : Surroundings) (c : Request) → tellsFull (onCreate (full around) c) ≡ false → onCreate (full around) c ≡ onCreate (notFull around) c
-unfolding onCreate first
+create-full : (around : Surroundings) (c : Request) → tellsFull (onCreate (withFullness around) c) ≡ false → onCreate (withFullness around) c ≡ onCreate (notFull around) c
+unfolding onCreate byTests
 create-full around c h =
     let f = c .frame in
     decide (not (eqb (inMemType f) 0)) (λ e. simp e) (λ e₁.
@@ -70,33 +70,33 @@ create-full around c h =
     decide (not (within (codedFormat f) firstCoded lastCoded)) (λ e. simp (e₁, e₂, e)) (λ e₃.
     decide (not (goodTag (tagIn f))) (λ e. simp (e₁, e₂, e₃, e)) (λ e₄. never (sym (full-tells c) ∙ (simp (e₁, e₂, e₃, e₄) at h))))))
 
-stream-full : (around : Surroundings) (c : Request) (x : Command) (r : Option Stream) → (x ≡ create → tellsFull (onStream (full around) c x r) ≡ false) → onStream (full around) c x r ≡ onStream (notFull around) c x r
+stream-full : (around : Surroundings) (c : Request) (x : Command) (r : Option Stream) → (x ≡ create → tellsFull (onStream (withFullness around) c x r) ≡ false) → onStream (withFullness around) c x r ≡ onStream (notFull around) c x r
 stream-full around c create none h = create-full around c (h refl)
 stream-full around c create (some b) h = refl
 stream-full around c (live k) none h = refl
 stream-full around c (live k) (some b) h = refl
 
 -- only the type 0x0101 is a creation
-abbrev SameLine : Surroundings → ℕ → Request → Option CommandLine → Type 0
-SameLine around ty c l = (eqb ty 0x0101 && tellsFull (onLine (full around) c l)) ≡ false → onLine (full around) c l ≡ onLine (notFull around) c l
+abbrev SameLine : Surroundings → ℕ → Request → Option CommandRule → Type 0
+SameLine around ty c l = (eqb ty 0x0101 && tellsFull (onRule (withFullness around) c l)) ≡ false → onRule (withFullness around) c l ≡ onRule (notFull around) c l
 
-line-full : (around : Surroundings) (c : Request) (l : CommandLine) → (l .command ≡ create → eqb (l .type) 0x0101 ≡ true) → SameLine around (l .type) c (some l)
+line-full : (around : Surroundings) (c : Request) (l : CommandRule) → (l .command ≡ create → eqb (l .type) 0x0101 ≡ true) → SameLine around (l .type) c (some l)
 line-full around c l is h =
-    decide (wrongLength (l .rule) (length (c .frame)))
+    decide (wrongLength (l .lengthRule) (length (c .frame)))
     (λ e. simp e)
     (λ e. simp e (stream-full around c (l .command) (c .self) (λ k. simp (is k, e) at h)))
 
 command-full : (around : Surroundings) (c : Request) (ty : ℕ) → SameLine around ty c (commandOf ty)
 command-full around c =
     by-type (λ ty l. SameLine around ty c l)
-    (each-line (λ l. l .command ≡ create → eqb (l .type) 0x0101 ≡ true) (λ l. SameLine around (l .type) c (some l)) (line-full around c) commands
+    (each-rule (λ l. l .command ≡ create → eqb (l .type) 0x0101 ≡ true) (λ l. SameLine around (l .type) c (some l)) (line-full around c) commands
     (λ _. refl, (no, (no, (no, (no, (no, (no, (no, (no, (no, (no, (no, tt)))))))))))))
     (λ ty h. refl)
   where
     no : {k : LiveCommand} {x : Bool} → live k ≡ create → x ≡ true
     no e = cc
 
-act-full : (around : Surroundings) (n : ℕ) (self : Option Stream) (a : Act) → (isCreation a && tellsFull (serve (full around) n self a)) ≡ false → serve (full around) n self a ≡ serve (notFull around) n self a
+act-full : (around : Surroundings) (n : ℕ) (self : Option Stream) (a : Act) → (isCreation a && tellsFull (serve (withFullness around) n self a)) ≡ false → serve (withFullness around) n self a ≡ serve (notFull around) n self a
 unfolding serve onCommand
 act-full around n self (command t f) h = command-full around (record { stream = n; ticket = t; frame = f; self = self }) (commandType f) h
 act-full around n self (finish m qt r flags ts) h = refl
@@ -112,12 +112,12 @@ serve-alone false around n self a h = refl
 abbrev pub roomRefusal : Step → ℕ
 roomRefusal s = hostRefusal tableWords (length (s .room)) true
 
-pub step-runs : (d : Device) (s : Step) → eqb (roomRefusal s) 0 ≡ true → step d s ≡ perform d (s .act)
-unfolding step
+pub step-runs : (d : Device) (s : Step) → eqb (roomRefusal s) 0 ≡ true → stepOn d s ≡ perform d (s .act)
+unfolding stepOn
 step-runs d s e = simp e
 
-pub step-refused : (d : Device) (s : Step) → eqb (roomRefusal s) 0 ≡ false → step d s ≡ refused (roomRefusal s) d
-unfolding step
+pub step-refused : (d : Device) (s : Step) → eqb (roomRefusal s) 0 ≡ false → stepOn d s ≡ refused (roomRefusal s) d
+unfolding stepOn
 step-refused d s e = simp e
 
 -- The record behind a number after a step of its own, and of another
@@ -135,17 +135,17 @@ alonePlaces n r = place n r ∷ replicate 7 vacant
 alone-record : (n : ℕ) (r : Option Stream) → recordOf n (alonePlaces n r) ≡ r
 unfolding alonePlaces
 alone-record n none = refl
-alone-record n (some b) = simp (eqb-refl n)
+alone-record n (some b) = simp (eqb-same n)
 
 alone-vacant : (n : ℕ) (r : Option Stream) → noPlace (alonePlaces n r) ≡ false
 unfolding alonePlaces
 alone-vacant n none = refl
 alone-vacant n (some b) = refl
 
-alone-put : (n : ℕ) (r x : Option Stream) → put n x (alonePlaces n r) ≡ alonePlaces n x
-unfolding alonePlaces put
+alone-put : (n : ℕ) (r x : Option Stream) → putRecord n x (alonePlaces n r) ≡ alonePlaces n x
+unfolding alonePlaces putRecord
 alone-put n none x = refl
-alone-put n (some b) x = simp (eqb-refl n)
+alone-put n (some b) x = simp (eqb-same n)
 
 -- what is left of a device where only the stream n is on it
 solo : ℕ → Device → Device
@@ -169,38 +169,38 @@ module _ (n : ℕ) (d : Device) (a : Act) where
   solo-perform d′ e = simp (alone-vacant, alone-record, alone-put, e)
 
 -- the same step on the whole device and alone
-module _ (n : ℕ) (d : Device) (s : Step) (o : streamOf (s .act) ≡ some n) (h : outOfMemoryAt (entryOf s (step d s)) ≡ false) where
+module _ (n : ℕ) (d : Device) (s : Step) (o : streamOf (s .act) ≡ some n) (h : outOfMemoryAt (eventOf s (stepOn d s)) ≡ false) where
   abbrev self : Option Stream
   self = recordOf n (d .places)
 
-  abbrev Same : Outcome → Outcome → Type 0
+  abbrev Same : DeviceReply → DeviceReply → Type 0
   Same x y = y ≡ record { refusal = x .refusal; answers = x .answers; device = solo n (x .device) }
 
-  performed : step d s ≡ performOf d (s .act) (some n) → Same (performOf d (s .act) (some n)) (performOf (solo n d) (s .act) (some n))
+  performed : stepOn d s ≡ performOf d (s .act) (some n) → Same (performOf d (s .act) (some n)) (performOf (solo n d) (s .act) (some n))
   unfolding outOfMemoryAt
   performed e =
       let sv : serve (around d n) n self (s .act) ≡ serve (notFull (around d n)) n self (s .act) =
-      serve-alone (noPlace (d .places)) (around d n) n self (s .act) (subst (λ (x : Outcome). (isCreation (s .act) && anyOf saysFull (answersIn (bytesOf (x .answers)))) ≡ false) e h) in
+      serve-alone (noPlace (d .places)) (around d n) n self (s .act) (subst (λ (x : DeviceReply). (isCreation (s .act) && anyOf saysFull (answersIn (bytesOf (x .answers)))) ≡ false) e h) in
       let d′ = performOf d (s .act) (some n) .device in
       solo-perform n d (s .act) d′ (own-record n d (s .act) ∙ ap (λ v. v .next) sv)
       ∙ (λ i. record { refusal = (sym sv i) .refusal; answers = (sym sv i) .answers; device = solo n d′ })
 
-  same-step : Same (step d s) (step (solo n d) s)
+  same-step : Same (stepOn d s) (stepOn (solo n d) s)
   same-step =
       decide (eqb (roomRefusal s) 0)
       (λ e.
-      let runs : step d s ≡ performOf d (s .act) (some n) = step-runs d s e ∙ ap (performOf d (s .act)) o in
-      let there : step (solo n d) s ≡ performOf (solo n d) (s .act) (some n) = step-runs (solo n d) s e ∙ ap (performOf (solo n d) (s .act)) o in
-      subst (λ (x : Outcome). Same x (step (solo n d) s)) (sym runs) (there ∙ performed runs))
-      (λ e. subst (λ (x : Outcome). Same x (step (solo n d) s)) (sym (step-refused d s e)) (step-refused (solo n d) s e))
+      let runs : stepOn d s ≡ performOf d (s .act) (some n) = step-runs d s e ∙ ap (performOf d (s .act)) o in
+      let there : stepOn (solo n d) s ≡ performOf (solo n d) (s .act) (some n) = step-runs (solo n d) s e ∙ ap (performOf (solo n d) (s .act)) o in
+      subst (λ (x : DeviceReply). Same x (stepOn (solo n d) s)) (sym runs) (there ∙ performed runs))
+      (λ e. subst (λ (x : DeviceReply). Same x (stepOn (solo n d) s)) (sym (step-refused d s e)) (step-refused (solo n d) s e))
 
 -- a step of another stream, or of none, leaves what the stream n alone has
-other-step : (n : ℕ) (d : Device) (s : Step) → isOwner n (streamOf (s .act)) ≡ false → solo n (step d s .device) ≡ solo n d
+other-step : (n : ℕ) (d : Device) (s : Step) → isOwner n (streamOf (s .act)) ≡ false → solo n (stepOn d s .device) ≡ solo n d
 unfolding solo
 other-step n d s b =
     decide (eqb (roomRefusal s) 0)
-    (λ e. ap (λ (x : Outcome). solo n (x .device)) (step-runs d s e) ∙ of (streamOf (s .act)) b)
-    (λ e. ap (λ (x : Outcome). solo n (x .device)) (step-refused d s e))
+    (λ e. ap (λ (x : DeviceReply). solo n (x .device)) (step-runs d s e) ∙ of (streamOf (s .act)) b)
+    (λ e. ap (λ (x : DeviceReply). solo n (x .device)) (step-refused d s e))
   where
     of : (o : Option ℕ) → isOwner n o ≡ false → solo n (performOf d (s .act) o .device) ≡ solo n d
     of none q = refl
@@ -221,34 +221,34 @@ owner-is n (some m) e = ap some (eqb-true m n e)
 
 abbrev Isolated : ℕ → Device → List Step → Type 0
 Isolated n d ss =
-    anyOf outOfMemoryAt (ownEntries n (entriesOf d ss)) ≡ false
-    → (ownEntries n (entriesOf d ss) ≡ entriesOf (solo n d) (stepsOf (ownEntries n (entriesOf d ss))))
-    × (recordOf n (final d ss .places) ≡ recordOf n (final (solo n d) (stepsOf (ownEntries n (entriesOf d ss))) .places))
+    anyOf outOfMemoryAt (ownEvents n (eventsOf d ss)) ≡ false
+    → (ownEvents n (eventsOf d ss) ≡ eventsOf (solo n d) (stepsOf (ownEvents n (eventsOf d ss))))
+    × (recordOf n (final d ss .places) ≡ recordOf n (final (solo n d) (stepsOf (ownEvents n (eventsOf d ss))) .places))
 
-isolate-own : (n : ℕ) (d : Device) (s : Step) (ss : List Step) → belongs n (entryOf s (step d s)) ≡ true → Isolated n (step d s .device) ss → Isolated n d (s ∷ ss)
+isolate-own : (n : ℕ) (d : Device) (s : Step) (ss : List Step) → belongs n (eventOf s (stepOn d s)) ≡ true → Isolated n (stepOn d s .device) ss → Isolated n d (s ∷ ss)
 unfolding belongs
 isolate-own n d s ss b ih h =
-    let d′ = step d s .device in
-    let rest = ownEntries n (entriesOf d′ ss) in
-    let h′ : anyOf outOfMemoryAt (entryOf s (step d s) ∷ rest) ≡ false = simp b at h in
-    let there = ih (any-tail outOfMemoryAt (entryOf s (step d s)) rest h′) in
-    let same = same-step n d s (serves-owner (s .act) ∙ owner-is n (ownerOf (s .act)) b) (any-head outOfMemoryAt (entryOf s (step d s)) rest h′) in
+    let d′ = stepOn d s .device in
+    let rest = ownEvents n (eventsOf d′ ss) in
+    let h′ : anyOf outOfMemoryAt (eventOf s (stepOn d s) ∷ rest) ≡ false = simp b at h in
+    let there = ih (any-tail outOfMemoryAt (eventOf s (stepOn d s)) rest h′) in
+    let same = same-step n d s (serves-owner (s .act) ∙ owner-is n (ownerOf (s .act)) b) (any-head outOfMemoryAt (eventOf s (stepOn d s)) rest h′) in
     simp b (
-      ap₂ (λ (x : Outcome) (l : List Entry). entryOf s x ∷ l) (sym same) (there .0 ∙ ap (λ (x : Outcome). entriesOf (x .device) (stepsOf rest)) (sym same)),
-      there .1 ∙ ap (λ (x : Outcome). recordOf n (final (x .device) (stepsOf rest) .places)) (sym same),
+      ap₂ (λ (x : DeviceReply) (l : List Event). eventOf s x ∷ l) (sym same) (there .0 ∙ ap (λ (x : DeviceReply). eventsOf (x .device) (stepsOf rest)) (sym same)),
+      there .1 ∙ ap (λ (x : DeviceReply). recordOf n (final (x .device) (stepsOf rest) .places)) (sym same),
     )
 
-isolate-other : (n : ℕ) (d : Device) (s : Step) (ss : List Step) → belongs n (entryOf s (step d s)) ≡ false → Isolated n (step d s .device) ss → Isolated n d (s ∷ ss)
+isolate-other : (n : ℕ) (d : Device) (s : Step) (ss : List Step) → belongs n (eventOf s (stepOn d s)) ≡ false → Isolated n (stepOn d s .device) ss → Isolated n d (s ∷ ss)
 unfolding belongs
 isolate-other n d s ss b ih h = simp b (simp (other-step n d s (ap (isOwner n) (serves-owner (s .act)) ∙ b)) at (ih (simp b at h)))
 
 isolate : (n : ℕ) (d : Device) (ss : List Step) → Isolated n d ss
 isolate n d [] = λ h. (refl, sym (solo-record n d))
 isolate n d (s ∷ ss) =
-    let later = isolate n (step d s .device) ss in
-    decide (belongs n (entryOf s (step d s))) (λ b. isolate-own n d s ss b later) (λ b. isolate-other n d s ss b later)
+    let later = isolate n (stepOn d s .device) ss in
+    decide (belongs n (eventOf s (stepOn d s))) (λ b. isolate-own n d s ss b later) (λ b. isolate-other n d s ss b later)
 
-pub isolated : (n : ℕ) (ss : List Step) → anyOf outOfMemoryAt (ownEntries n (entriesOf fresh ss)) ≡ false
-    → (ownEntries n (entriesOf fresh ss) ≡ entriesOf fresh (stepsOf (ownEntries n (entriesOf fresh ss))))
-    × (recordOf n (final fresh ss .places) ≡ recordOf n (final fresh (stepsOf (ownEntries n (entriesOf fresh ss))) .places))
+pub isolated : (n : ℕ) (ss : List Step) → anyOf outOfMemoryAt (ownEvents n (eventsOf fresh ss)) ≡ false
+    → (ownEvents n (eventsOf fresh ss) ≡ eventsOf fresh (stepsOf (ownEvents n (eventsOf fresh ss))))
+    × (recordOf n (final fresh ss .places) ≡ recordOf n (final fresh (stepsOf (ownEvents n (eventsOf fresh ss))) .places))
 isolated n ss = simp (solo-fresh n) at (isolate n fresh ss)

@@ -1,12 +1,12 @@
 pub mod Computed
 pub mod Slots
 pub mod Walk
-pub mod Lines
+pub mod Rules
 pub mod LedgerView
 pub mod Fits
 pub mod Places
 pub mod Isolation
-pub mod Cases
+pub mod Origins
 pub mod Full
 pub mod WellFormed
 pub mod ReadBack

@@ -11,10 +11,10 @@ use Rattle.model.specs.Device.{QueueType, input, output, Queue, Stream, 
 use Rattle.model.specs.Frames.{QueueCommand, createResource, queueResource, destroyAll, clear, getParameters, setParameters, LiveCommand}
 use Rattle.model.specs.Replies.{Reply, Request}
 use Rattle.model.specs.Commands.{Surroundings, onCreate, onDestroy, onDrain, onCreateResource, onQueue, onDestroyAll, drainLeft, cleared, onClear, onGet, onSet, onQueueOf, onLive, onCommand}
-use Rattle.model.specs.Steps.{Act, command, finish, drained, Step, serve, Outcome, around, step, final}
+use Rattle.model.specs.Steps.{Act, command, finish, drained, Step, serve, DeviceReply, around, stepOn, final}
 use Rattle.model.specs.Promises.{unmarked, NoMark}
 use Rattle.model.proofs.Walk.{walk}
-use Rattle.model.proofs.Cases.{live-cases, command-cases, finish-cases, drained-cases, step-cases}
+use Rattle.model.proofs.Origins.{live-cases, command-cases, finish-cases, drained-cases, step-cases}
 use Rattle.model.proofs.Places.{all-record, all-put}
 
 abbrev Unmarked : Option Stream → Type 0
@@ -47,21 +47,21 @@ abbrev LeavesNone : Reply → Type 0
 LeavesNone v = Unmarked (v .next)
 
 module _ (c : Request) (b : Stream) (self : c .self ≡ some b) (h : Unmarked (some b)) where
-  same : Unmarked (c .self)
-  same = subst Unmarked (sym self) h
+  same-marks : Unmarked (c .self)
+  same-marks = subst Unmarked (sym self) h
 
   queue-leaves : (k : QueueCommand) (q : QueueType) → LeavesNone (onQueueOf k c b q)
   unfolding onCreateResource onQueue onDestroyAll onClear onGet onSet
-  queue-leaves createResource q = walk LeavesNone c _ (λ e. same) (λ h₁ h₂ h₃ h₄ h₅ h₆ h₇. with-queue q _ b (h q) h)
-  queue-leaves queueResource q = walk LeavesNone c _ (λ e. same) (λ h₁ h₂ h₃ h₄ h₅. with-queue q _ b (h q) h)
-  queue-leaves destroyAll q = walk LeavesNone c _ (λ e. same) (λ h₁. with-queue q _ b (h q) h)
+  queue-leaves createResource q = walk LeavesNone c _ (λ e. same-marks) (λ h₁ h₂ h₃ h₄ h₅ h₆ h₇. with-queue q _ b (h q) h)
+  queue-leaves queueResource q = walk LeavesNone c _ (λ e. same-marks) (λ h₁ h₂ h₃ h₄ h₅. with-queue q _ b (h q) h)
+  queue-leaves destroyAll q = walk LeavesNone c _ (λ e. same-marks) (λ h₁. with-queue q _ b (h q) h)
   queue-leaves clear q = with-queue q (cleared (queueOf q b)) (withDrain (drainLeft q b) b) refl (with-drain (drainLeft q b) b h)
-  queue-leaves getParameters q = same
-  queue-leaves setParameters q = walk LeavesNone c _ (λ e. same) (λ h₁ h₂ h₃ h₄. with-queue q _ b (h q) h)
+  queue-leaves getParameters q = same-marks
+  queue-leaves setParameters q = walk LeavesNone c _ (λ e. same-marks) (λ h₁ h₂ h₃ h₄. with-queue q _ b (h q) h)
 
   live-leaves : (k : LiveCommand) → LeavesNone (onLive k c b)
   unfolding onDestroy onDrain
-  live-leaves = live-cases LeavesNone c b (λ e. same) tt (walk LeavesNone c _ (λ e. same) (λ _. with-drain (some (c .ticket)) b h)) queue-leaves
+  live-leaves = live-cases LeavesNone c b (λ e. same-marks) tt (walk LeavesNone c _ (λ e. same-marks) (λ _. with-drain (some (c .ticket)) b h)) queue-leaves
 
 new-unmarked : (v : ℕ) → Unmarked (some (newStream v))
 new-unmarked v input = refl
@@ -81,16 +81,16 @@ serve-leaves around n self (finish k qt r flags ts) h =
     finish-cases LeavesNone n qt r flags ts self h h (λ q b i e f. let u : Unmarked (some b) = subst Unmarked e h in with-queue q _ b (u q) u)
 serve-leaves around n self (drained k) h = drained-cases LeavesNone n self h (λ b t e f. with-drain none b (subst Unmarked e h))
 
-step-unmarked : (d : Device) (s : Step) → allOf unmarked (d .places) ≡ true → allOf unmarked (step d s .device .places) ≡ true
+step-unmarked : (d : Device) (s : Step) → allOf unmarked (d .places) ≡ true → allOf unmarked (stepOn d s .device .places) ≡ true
 step-unmarked d s h =
-    step-cases (λ (o : Outcome). allOf unmarked (o .device .places) ≡ true) d s (λ k. h)
+    step-cases (λ (o : DeviceReply). allOf unmarked (o .device .places) ≡ true) d s (λ k. h)
     (λ n e. let r = recordOf n (d .places) in
     let v : Reply = serve (around d n) n r (s .act) in
     all-put unmarked n (v .next) (is-unmarked n (v .next) (serve-leaves (around d n) n r (s .act) (unmarked-is n r (all-record unmarked n refl (d .places) h)))) (d .places) h)
 
 final-unmarked : (d : Device) (ss : List Step) → allOf unmarked (d .places) ≡ true → allOf unmarked (final d ss .places) ≡ true
 final-unmarked d [] h = h
-final-unmarked d (s ∷ ss) h = final-unmarked (step d s .device) ss (step-unmarked d s h)
+final-unmarked d (s ∷ ss) h = final-unmarked (stepOn d s .device) ss (step-unmarked d s h)
 
 pub no-mark : NoMark
 unfolding fresh

@@ -8,8 +8,8 @@ use lib.Dec.{eqb}
 use borrow.Author.Tests.{eqb-true}
 use Rattle.laws.specs.Lists.{allOf, isNone, numbersIn, standsIn}
 use Rattle.laws.proofs.Tests.{never, both, and-left, and-right}
-use Rattle.laws.proofs.Lists.{decide, cond-elim, eqb-refl, none-is}
-use Rattle.model.specs.Device.{Stream, Place, vacant, occupied, placeNumber, recordOf, noPlace, place, replace, install, put}
+use Rattle.laws.proofs.Lists.{decide, cond-elim, eqb-same, none-is}
+use Rattle.model.specs.Device.{Stream, Place, vacant, occupied, placeNumber, recordOf, noPlace, place, replace, install, putRecord}
 use Rattle.model.specs.WellFormed.{distinctPlaces}
 
 -- a number is distinct from those of other places where it has no record there
@@ -38,7 +38,7 @@ replace-same n none ps h = replace-gone n ps
 replace-same n (some c) [] h = cc
 replace-same n (some c) (vacant ∷ ps) h = replace-same n (some c) ps h
 replace-same n (some c) (occupied m b ∷ ps) h =
-    decide (eqb m n) (λ e. simp (e, eqb-refl n)) (λ e. simp e (replace-same n (some c) ps (simp e at h)))
+    decide (eqb m n) (λ e. simp (e, eqb-same n)) (λ e. simp e (replace-same n (some c) ps (simp e at h)))
 
 pub replace-other : (m n : ℕ) (r : Option Stream) (ps : List Place) → eqb n m ≡ false → recordOf m (replace n r ps) ≡ recordOf m ps
 replace-other m n r [] h = refl
@@ -61,7 +61,7 @@ install-none n (occupied m b ∷ ps) = ap (λ r. occupied m b ∷ r) (install-no
 pub install-same : (n : ℕ) (r : Option Stream) (ps : List Place) → isNone (recordOf n ps) ≡ true → noPlace ps ≡ false → recordOf n (install n r ps) ≡ r
 install-same n r [] h k = cc
 install-same n none (vacant ∷ ps) h k = none-is _ h
-install-same n (some c) (vacant ∷ ps) h k = simp (eqb-refl n)
+install-same n (some c) (vacant ∷ ps) h k = simp (eqb-same n)
 install-same n r (occupied m b ∷ ps) h k = decide (eqb m n) (λ e. never (sym (simp e at h))) (λ e. simp e (install-same n r ps (simp e at h) k))
 
 pub install-other : (m n : ℕ) (r : Option Stream) (ps : List Place) → eqb n m ≡ false → recordOf m (install n r ps) ≡ recordOf m ps
@@ -71,8 +71,8 @@ install-other m n (some c) (vacant ∷ ps) h = simp h
 install-other m n r (occupied k b ∷ ps) h = simp (install-other m n r ps h)
 
 -- a record that is put back is found again; a new one only where a place is vacant
-pub put-same : (n : ℕ) (r : Option Stream) (ps : List Place) → (isNone (recordOf n ps) ≡ true → noPlace ps ≡ true → r ≡ none) → recordOf n (put n r ps) ≡ r
-unfolding put
+pub put-same : (n : ℕ) (r : Option Stream) (ps : List Place) → (isNone (recordOf n ps) ≡ true → noPlace ps ≡ true → r ≡ none) → recordOf n (putRecord n r ps) ≡ r
+unfolding putRecord
 put-same n r ps h =
     decide (isNone (recordOf n ps))
     (λ e. decide (noPlace ps)
@@ -80,8 +80,8 @@ put-same n r ps h =
     (λ f. simp e (install-same n r ps e f)))
     (λ e. simp e (replace-same n r ps e))
 
-pub put-other : (m n : ℕ) (r : Option Stream) (ps : List Place) → eqb n m ≡ false → recordOf m (put n r ps) ≡ recordOf m ps
-unfolding put
+pub put-other : (m n : ℕ) (r : Option Stream) (ps : List Place) → eqb n m ≡ false → recordOf m (putRecord n r ps) ≡ recordOf m ps
+unfolding putRecord
 put-other m n r ps h = decide (isNone (recordOf n ps)) (λ e. simp e (install-other m n r ps h)) (λ e. simp e (replace-other m n r ps h))
 
 -- a record put back unchanged leaves the device as it was
@@ -95,8 +95,8 @@ replace-self n (occupied m b ∷ ps) h =
     (λ e. simp (e, replace-absent n (some b) ps (subst (λ (x : ℕ). isNone (recordOf x ps) ≡ true) (eqb-true m n e) here)) (ap (λ x. occupied x b ∷ ps) (sym (eqb-true m n e))))
     (λ e. simp e (ap (λ x. occupied m b ∷ x) (replace-self n ps (alone-tail m b ps h))))
 
-pub put-self : (n : ℕ) (ps : List Place) → distinctPlaces ps ≡ true → put n (recordOf n ps) ps ≡ ps
-unfolding put
+pub put-self : (n : ℕ) (ps : List Place) → distinctPlaces ps ≡ true → putRecord n (recordOf n ps) ps ≡ ps
+unfolding putRecord
 put-self n ps h =
     decide (isNone (recordOf n ps))
     (λ e. simp (none-is (recordOf n ps) e) (install-none n ps))
@@ -125,6 +125,6 @@ module _ (p : Place → Bool) (n : ℕ) where
     all-install (vacant ∷ ps) h = both g (and-right (p vacant) _ h)
     all-install (occupied m b ∷ ps) h = both (and-left (p (occupied m b)) _ h) (all-install ps (and-right (p (occupied m b)) _ h))
 
-    pub all-put : (ps : List Place) → allOf p ps ≡ true → allOf p (put n r ps) ≡ true
-    unfolding put
+    pub all-put : (ps : List Place) → allOf p ps ≡ true → allOf p (putRecord n r ps) ≡ true
+    unfolding putRecord
     all-put ps h = cond-elim (λ x. allOf p x ≡ true) (isNone (recordOf n ps)) (λ _. all-install ps h) (λ _. all-replace ps h)

@@ -19,14 +19,14 @@ use Rattle.field.proofs.Laws.{field-after, field-back}
 use Rattle.model.specs.Numbers.{err}
 use Rattle.model.specs.Device.{QueueType, input, output, created, queued, dequeued, Slot, free, resource, Stream, Device, queueOf, Buffer, queuedIn, buffers, bufferOf, recordOf}
 use Rattle.model.specs.Frames.{QueueCommand, createResource, queueResource, destroyAll, clear, getParameters, setParameters, LiveCommand, word}
-use Rattle.model.specs.Answers.{ErrorCode, invalidOperation, outOfMemory, invalidStream, invalidResource, invalidParameter, unsupportedControl, Response, success, bufferDone, drainDone, parameters, failure, Answer, words, responseBytes, response, bytesOf, readFrom, answersIn}
+use Rattle.model.specs.Answers.{ErrorCode, invalidOperation, outOfMemory, invalidStream, invalidResource, invalidParameter, unsupportedControl, Response, success, bufferDone, drainDone, parameters, failure, Answer, wordBytes, responseBytes, responseOf, bytesOf, readFrom, answersIn}
 use Rattle.model.specs.Replies.{Reply, Request, own, fail}
 use Rattle.model.specs.Commands.{Surroundings, stoppedAnswers, drainAnswers, onCreate, onDestroy, onDrain, onCreateResource, onQueue, onDestroyAll, drainEnded, onClear, parameterWords, onGet, onSet, onQueueOf, onLive, onCommand}
-use Rattle.model.specs.Steps.{Act, command, finish, drained, Step, serve, Outcome, around, step, isError}
+use Rattle.model.specs.Steps.{Act, command, finish, drained, Step, serve, DeviceReply, around, stepOn, isError}
 use Rattle.model.specs.WellFormed.{u32, goodSlot, goodDrain, wellFormed, goodAct}
-use Rattle.model.specs.Promises.{written, ReadBack}
+use Rattle.model.specs.Promises.{asWritten, ReadBack}
 use Rattle.model.proofs.Walk.{walk}
-use Rattle.model.proofs.Cases.{live-cases, command-cases, finish-cases, drained-cases, step-cases}
+use Rattle.model.proofs.Origins.{live-cases, command-cases, finish-cases, drained-cases, step-cases}
 use Rattle.model.proofs.Fits.{isFailure}
 use Rattle.model.proofs.WellFormed.{GoodStream, GoodSelf, good-queue-of, well-record}
 
@@ -45,7 +45,7 @@ type-says n (failure invalidResource) = refl
 type-says n (failure invalidParameter) = refl
 type-says n (failure unsupportedControl) = refl
 
-pub error-is : (a : Answer) → isError (written a) ≡ isFailure (a .response)
+pub error-is : (a : Answer) → isError (asWritten a) ≡ isFailure (a .response)
 error-is a = type-says (a .stream) (a .response)
 
 abbrev pub sizeOf : Response → ℕ
@@ -55,7 +55,7 @@ sizeOf drainDone = 8
 sizeOf (parameters ws) = 8 + 4 * length ws
 sizeOf (failure e) = 8
 
-pub length-words : (ws : List ℕ) → length (words ws) ≡ 4 * length ws
+pub length-words : (ws : List ℕ) → length (wordBytes ws) ≡ 4 * length ws
 unfolding littleEndian
 length-words [] = refl
 length-words (w ∷ ws) = omega (arith, length-words ws)
@@ -71,10 +71,10 @@ length-response n (failure e) = refl
 -- Reading back
 
 abbrev pub goodAnswer : Answer → Bool
-goodAnswer a = u32 (a .ticket) && u32 (length (response a))
+goodAnswer a = u32 (a .ticket) && u32 (length (responseOf a))
 
-all-both : (l m : List Answer) → allOf goodAnswer l ≡ true → allOf goodAnswer m ≡ true → allOf goodAnswer (l ++ m) ≡ true
-all-both l m h k = all-append goodAnswer l m ∙ both h k
+good-append : (l m : List Answer) → allOf goodAnswer l ≡ true → allOf goodAnswer m ≡ true → allOf goodAnswer (l ++ m) ≡ true
+good-append l m h k = all-append goodAnswer l m ∙ both h k
 
 read-more : (k : ℕ) (s : List ℕ) → 0 < length s
     → readFrom (suc k) s ≡ record { ticket = word s 0; response = take (word s 4) (drop 8 s) } ∷ readFrom k (drop (8 + word s 4) s)
@@ -93,23 +93,23 @@ read-one k t r rest ht hr =
     read-more k s (omega arith)
     ∙ rw (ticket, size, ← drop-drop (length r) 8 s) (rw (take-append-seam r rest, drop-append-seam r rest))
 
-read-all : (l : List Answer) (k : ℕ) → length l ≤ k → allOf goodAnswer l ≡ true → readFrom k (bytesOf l) ≡ map written l
+read-all : (l : List Answer) (k : ℕ) → length l ≤ k → allOf goodAnswer l ≡ true → readFrom k (bytesOf l) ≡ map asWritten l
 unfolding readFrom
 read-all [] zero h g = refl
 read-all [] (suc k) h g = refl
 read-all (a ∷ l) zero h g = absurd (omega arith)
 read-all (a ∷ l) (suc k) h g =
     let here = and-left (goodAnswer a) _ g in
-    read-one k (a .ticket) (response a) (bytesOf l) (and-left (u32 (a .ticket)) _ here) (and-right (u32 (a .ticket)) _ here)
-    ∙ ap (λ x. written a ∷ x) (read-all l k (omega arith) (and-right (goodAnswer a) _ g))
+    read-one k (a .ticket) (responseOf a) (bytesOf l) (and-left (u32 (a .ticket)) _ here) (and-right (u32 (a .ticket)) _ here)
+    ∙ ap (λ x. asWritten a ∷ x) (read-all l k (omega arith) (and-right (goodAnswer a) _ g))
 
-length-bytes : (l : List Answer) → length l ≤ length (bytesOf l)
+length-bytesOf : (l : List Answer) → length l ≤ length (bytesOf l)
 unfolding littleEndian
-length-bytes [] = omega arith
-length-bytes (a ∷ l) = omega (arith, length-append (response a) (bytesOf l), length-bytes l)
+length-bytesOf [] = omega arith
+length-bytesOf (a ∷ l) = omega (arith, length-append (responseOf a) (bytesOf l), length-bytesOf l)
 
-pub read-back-list : (l : List Answer) → allOf goodAnswer l ≡ true → answersIn (bytesOf l) ≡ map written l
-read-back-list l g = read-all l (length (bytesOf l)) (length-bytes l) g
+pub read-back-list : (l : List Answer) → allOf goodAnswer l ≡ true → answersIn (bytesOf l) ≡ map asWritten l
+read-back-list l g = read-all l (length (bytesOf l)) (length-bytesOf l) g
 
 -- The answers of a step
 
@@ -140,14 +140,14 @@ found-good r i (x ∷ l) h e =
     (λ z. let is : some x ≡ some i = simp z at e in let same : x ≡ i = cc in subst (λ y. goodBuffer y ≡ true) same (and-left (goodBuffer x) _ h))
     (λ z. found-good r i l (and-right (goodBuffer x) _ h) (simp z at e))
 
-queue-good : (q : QueueType) (b : Stream) → GoodStream b → allOf goodBuffer (queuedIn (queueOf q b .slots)) ≡ true
-queue-good q b g = queued-good (queueOf q b .slots) ((good-queue-of q b g) .slots .each)
+queue-small : (q : QueueType) (b : Stream) → GoodStream b → allOf goodBuffer (queuedIn (queueOf q b .slots)) ≡ true
+queue-small q b g = queued-good (queueOf q b .slots) ((good-queue-of q b g) .slots .each)
 
-stopped-good : (n : ℕ) (q : QueueType) (b : Stream) → GoodStream b → allOf goodAnswer (stoppedAnswers n q (buffers q b)) ≡ true
+stopped-readable : (n : ℕ) (q : QueueType) (b : Stream) → GoodStream b → allOf goodAnswer (stoppedAnswers n q (buffers q b)) ≡ true
 unfolding u32
-stopped-good n q b g =
+stopped-readable n q b g =
     all-map goodBuffer goodAnswer _ (λ i h. answer-good (i .ticket) n (bufferDone q (i .timestamp) err) h refl) (buffers q b)
-    (all-ascending (λ (i : Buffer). i .resource) goodBuffer (queuedIn (queueOf q b .slots)) (queue-good q b g))
+    (all-ascending (λ (i : Buffer). i .resource) goodBuffer (queuedIn (queueOf q b .slots)) (queue-small q b g))
 
 drain-good : (n : ℕ) (d : Option ℕ) → goodDrain d ≡ true → allOf goodAnswer (drainAnswers n d) ≡ true
 unfolding u32
@@ -164,65 +164,65 @@ length-parameters input b = refl
 length-parameters output b = refl
 
 module _ (c : Request) (t : u32 (c .ticket) ≡ true) where
-  succeeds : allOf goodAnswer (own c success ∷ []) ≡ true
+  success-readable : allOf goodAnswer (own c success ∷ []) ≡ true
   unfolding u32
-  succeeds = own-good c success t refl
+  success-readable = own-good c success t refl
 
-  fails : (e : ErrorCode) → GoodAnswers (fail c e)
+  fail-readable : (e : ErrorCode) → GoodAnswers (fail c e)
   unfolding u32
-  fails e = own-good c (failure e) t refl
+  fail-readable e = own-good c (failure e) t refl
 
-  queue-answers : (k : QueueCommand) (b : Stream) (q : QueueType) → GoodStream b → GoodAnswers (onQueueOf k c b q)
+  queue-readable : (k : QueueCommand) (b : Stream) (q : QueueType) → GoodStream b → GoodAnswers (onQueueOf k c b q)
   unfolding onCreateResource onQueue onDestroyAll onClear onGet onSet u32
-  queue-answers createResource b q g = walk GoodAnswers c _ fails (λ h₁ h₂ h₃ h₄ h₅ h₆ h₇. succeeds)
-  queue-answers queueResource b q g = walk GoodAnswers c _ fails (λ h₁ h₂ h₃ h₄ h₅. refl)
-  queue-answers destroyAll b q g = walk GoodAnswers c _ fails (λ h. succeeds)
-  queue-answers clear b q g =
+  queue-readable createResource b q g = walk GoodAnswers c _ fail-readable (λ h₁ h₂ h₃ h₄ h₅ h₆ h₇. success-readable)
+  queue-readable queueResource b q g = walk GoodAnswers c _ fail-readable (λ h₁ h₂ h₃ h₄ h₅. refl)
+  queue-readable destroyAll b q g = walk GoodAnswers c _ fail-readable (λ h. success-readable)
+  queue-readable clear b q g =
       let n = c .stream in
       let d = drainAnswers n (drainEnded q b) in
-      all-both (stoppedAnswers n q (buffers q b)) (d ++ own c success ∷ []) (stopped-good n q b g)
-      (all-both d (own c success ∷ []) (drain-good n (drainEnded q b) (ended-good q b g)) succeeds)
-  queue-answers getParameters b q g = own-good c (parameters (parameterWords q b)) t (ap (λ k. u32 (8 + 4 * k)) (length-parameters q b))
-  queue-answers setParameters b q g = walk GoodAnswers c _ fails (λ h₁ h₂ h₃ h₄. succeeds)
+      good-append (stoppedAnswers n q (buffers q b)) (d ++ own c success ∷ []) (stopped-readable n q b g)
+      (good-append d (own c success ∷ []) (drain-good n (drainEnded q b) (ended-good q b g)) success-readable)
+  queue-readable getParameters b q g = own-good c (parameters (parameterWords q b)) t (ap (λ k. u32 (8 + 4 * k)) (length-parameters q b))
+  queue-readable setParameters b q g = walk GoodAnswers c _ fail-readable (λ h₁ h₂ h₃ h₄. success-readable)
 
-  destroy-answers : (b : Stream) → GoodStream b → GoodAnswers (onDestroy c b)
+  destroy-readable : (b : Stream) → GoodStream b → GoodAnswers (onDestroy c b)
   unfolding onDestroy
-  destroy-answers b g =
+  destroy-readable b g =
       let n = c .stream in
       let i = stoppedAnswers n input (buffers input b) in
       let o = stoppedAnswers n output (buffers output b) in
       let d = drainAnswers n (b .draining) in
-      all-both i (o ++ (d ++ own c success ∷ [])) (stopped-good n input b g)
-      (all-both o (d ++ own c success ∷ []) (stopped-good n output b g)
-      (all-both d (own c success ∷ []) (drain-good n (b .draining) (g .draining)) succeeds))
+      good-append i (o ++ (d ++ own c success ∷ [])) (stopped-readable n input b g)
+      (good-append o (d ++ own c success ∷ []) (stopped-readable n output b g)
+      (good-append d (own c success ∷ []) (drain-good n (b .draining) (g .draining)) success-readable))
 
-  live-answers : (k : LiveCommand) (b : Stream) → GoodStream b → GoodAnswers (onLive k c b)
+  live-readable : (k : LiveCommand) (b : Stream) → GoodStream b → GoodAnswers (onLive k c b)
   unfolding onDrain
-  live-answers k b g = live-cases GoodAnswers c b fails (destroy-answers b g) (walk GoodAnswers c _ fails (λ h. refl)) (λ j q. queue-answers j b q g) k
+  live-readable k b g = live-cases GoodAnswers c b fail-readable (destroy-readable b g) (walk GoodAnswers c _ fail-readable (λ h. refl)) (λ j q. queue-readable j b q g) k
 
-  command-answers : (around : Surroundings) → GoodSelf (c .self) → GoodAnswers (onCommand around c)
+  command-readable : (around : Surroundings) → GoodSelf (c .self) → GoodAnswers (onCommand around c)
   unfolding onCreate
-  command-answers around g =
-      command-cases GoodAnswers around c fails
-      (λ e. walk GoodAnswers c _ fails (λ h₁ h₂ h₃ h₄ h₅. succeeds))
-      (λ k b e. live-answers k b (subst GoodSelf e g))
+  command-readable around g =
+      command-cases GoodAnswers around c fail-readable
+      (λ e. walk GoodAnswers c _ fail-readable (λ h₁ h₂ h₃ h₄ h₅. success-readable))
+      (λ k b e. live-readable k b (subst GoodSelf e g))
 
 pub serve-answers : (around : Surroundings) (n : ℕ) (self : Option Stream) (a : Act) → GoodSelf self → goodAct a ≡ true
     → allOf goodAnswer (serve around n self a .answers) ≡ true
 unfolding serve u32
-serve-answers around n self (command t f) g m = command-answers (record { stream = n; ticket = t; frame = f; self = self }) (and-left (u32 t) _ m) around g
+serve-answers around n self (command t f) g m = command-readable (record { stream = n; ticket = t; frame = f; self = self }) (and-left (u32 t) _ m) around g
 serve-answers around n self (finish k qt r flags ts) g m =
     finish-cases GoodAnswers n qt r flags ts self refl refl
-    (λ q b i e f. both (answer-good (i .ticket) n _ (found-good r i (queuedIn (queueOf q b .slots)) (queue-good q b (subst GoodSelf e g)) f) refl) refl)
+    (λ q b i e f. both (answer-good (i .ticket) n _ (found-good r i (queuedIn (queueOf q b .slots)) (queue-small q b (subst GoodSelf e g)) f) refl) refl)
 serve-answers around n self (drained k) g m =
     drained-cases GoodAnswers n self refl
     (λ b t e f. let s : GoodStream b = subst GoodSelf e g in
     both (answer-good t n drainDone (subst (λ d. goodDrain d ≡ true) f (s .draining)) refl) refl)
 
-pub step-answers : (d : Device) (s : Step) → wellFormed d ≡ true → goodAct (s .act) ≡ true → allOf goodAnswer (step d s .answers) ≡ true
+pub step-answers : (d : Device) (s : Step) → wellFormed d ≡ true → goodAct (s .act) ≡ true → allOf goodAnswer (stepOn d s .answers) ≡ true
 step-answers d s h m =
-    step-cases (λ (o : Outcome). allOf goodAnswer (o .answers) ≡ true) d s (λ k. refl)
+    step-cases (λ (o : DeviceReply). allOf goodAnswer (o .answers) ≡ true) d s (λ k. refl)
     (λ n e. serve-answers (around d n) n (recordOf n (d .places)) (s .act) (well-record n d h) m)
 
 pub read-back : ReadBack
-read-back d s h m = read-back-list (step d s .answers) (step-answers d s h m)
+read-back d s h m = read-back-list (stepOn d s .answers) (step-answers d s h m)

@@ -14,11 +14,11 @@ use Rattle.model.specs.Device.{QueueType, Stream, Device, fresh, recordO
 use Rattle.model.specs.Frames.{QueueCommand, createResource, queueResource, destroyAll, clear, getParameters, setParameters, LiveCommand, streamId}
 use Rattle.model.specs.Replies.{Reply, Request}
 use Rattle.model.specs.Commands.{Surroundings, onCreate, onDestroy, onDrain, onCreateResource, onQueue, onDestroyAll, onClear, onGet, onSet, onQueueOf, onLive, onCommand}
-use Rattle.model.specs.Steps.{Act, command, finish, drained, Step, streamOf, serve, Outcome, around, performOf, perform, hostRefusal, step, entryOf, entriesOf}
+use Rattle.model.specs.Steps.{Act, command, finish, drained, Step, streamOf, serve, DeviceReply, around, performOf, perform, hostRefusal, stepOn, eventOf, eventsOf}
 use Rattle.model.specs.Tables.{Layout, Lawful, valid, effect}
 use Rattle.model.specs.Promises.{listed, OnlyListed, tableGood, NoTableRefusal}
 use Rattle.model.proofs.Walk.{walk}
-use Rattle.model.proofs.Cases.{live-cases, command-cases, finish-cases, drained-cases}
+use Rattle.model.proofs.Origins.{live-cases, command-cases, finish-cases, drained-cases}
 use Rattle.model.proofs.Isolation.{step-runs, step-refused, roomRefusal}
 use Rattle.model.proofs.Tables.{same-run}
 
@@ -91,17 +91,17 @@ room-listed : (room : ℕ) → eqb (hostRefusal tableWords room true) 0 ≡ fals
 unfolding hostRefusal
 room-listed room e = decide (ltb room answerRoom) (λ r. simp r) (λ r. never (simp r at e))
 
-step-table : (d : Device) (s : Step) → tableGood (entryOf s (step d s)) ≡ true
+step-table : (d : Device) (s : Step) → tableGood (eventOf s (stepOn d s)) ≡ true
 step-table d s =
     decide (eqb (roomRefusal s) 0)
-    (λ e. ap (λ (o : Outcome). tableGood (entryOf s o)) (step-runs d s e)
+    (λ e. ap (λ (o : DeviceReply). tableGood (eventOf s o)) (step-runs d s e)
     ∙ own-refusals (λ a k. tableGood (record { step = s; refusal = k; written = 0; bytes = [] }) ≡ true) (λ a. refl) (λ t f. refl) (λ n qt r flags ts. refl) (λ n qt r flags ts. refl) (λ n. refl) d (s .act))
-    (λ e. ap (λ (o : Outcome). tableGood (entryOf s o)) (step-refused d s e)
+    (λ e. ap (λ (o : DeviceReply). tableGood (eventOf s o)) (step-refused d s e)
     ∙ ap (λ (k : ℕ). tableGood (record { step = s; refusal = k; written = 0; bytes = [] })) (room-listed (length (s .room)) e))
 
-log-table : (d : Device) (ss : List Step) → allOf tableGood (entriesOf d ss) ≡ true
+log-table : (d : Device) (ss : List Step) → allOf tableGood (eventsOf d ss) ≡ true
 log-table d [] = refl
-log-table d (s ∷ ss) = both (step-table d s) (log-table (step d s .device) ss)
+log-table d (s ∷ ss) = both (step-table d s) (log-table (stepOn d s .device) ss)
 
 pub no-table-refusal : (L : Layout) → Lawful L → NoTableRefusal L
-no-table-refusal L law t ss h m = ap (λ r. allOf tableGood (r .entries)) (same-run L law t h ss m) ∙ log-table fresh ss
+no-table-refusal L law t ss h m = ap (λ r. allOf tableGood (r .events)) (same-run L law t h ss m) ∙ log-table fresh ss

@@ -13,11 +13,11 @@ use Rattle.model.specs.Answers.{ErrorCode, Response, success, bufferDone
 use Rattle.model.specs.Replies.{Reply, Request, own, fail}
 use Rattle.model.specs.Commands.{Surroundings, stoppedAnswers, drainAnswers, onCreate, onDestroy, onDrain, onCreateResource, onQueue, onDestroyAll, drainEnded, onClear, parameterWords, onGet, onSet, onQueueOf, onLive, onCommand}
 use Rattle.model.specs.Reports.{timestampOf}
-use Rattle.model.specs.Steps.{Act, command, finish, drained, serve, Outcome, around}
+use Rattle.model.specs.Steps.{Act, command, finish, drained, serve, DeviceReply, around}
 use Rattle.model.specs.Promises.{FitsRoom}
 use Rattle.laws.proofs.Ascending.{length-ascending}
 use Rattle.model.proofs.Walk.{walk}
-use Rattle.model.proofs.Cases.{live-cases, command-cases, finish-cases, drained-cases, step-cases}
+use Rattle.model.proofs.Origins.{live-cases, command-cases, finish-cases, drained-cases, step-cases}
 use Rattle.model.proofs.WellFormed.{GoodStream, GoodSelf, good-queue-of, well-record}
 use Rattle.model.proofs.ReadBack.{sizeOf, length-response, length-parameters}
 
@@ -53,24 +53,24 @@ stopped-fit n q b g =
     let s = queueOf q b .slots in
     omega (arith, size-stopped n q (buffers q b), length-ascending (λ (i : Buffer). i .resource) (queuedIn s), length-queued s, (good-queue-of q b g) .slots .size)
 
-abbrev Fits : Reply → Type 0
-Fits v = size (v .answers) ≤ answerRoom
+abbrev InRoom : Reply → Type 0
+InRoom v = size (v .answers) ≤ answerRoom
 
 size-own : (c : Request) (r : Response) → size (own c r ∷ []) ≡ 8 + sizeOf r
 size-own c r = omega (arith, size-cons (c .ticket) (c .stream) r [])
 
-succeeds : (c : Request) → size (own c success ∷ []) ≤ answerRoom
-succeeds c = omega (arith, size-own c success)
+success-small : (c : Request) → size (own c success ∷ []) ≤ answerRoom
+success-small c = omega (arith, size-own c success)
 
-fails : (c : Request) (e : ErrorCode) → Fits (fail c e)
-fails c e = omega (arith, size-own c (failure e))
+fail-small : (c : Request) (e : ErrorCode) → InRoom (fail c e)
+fail-small c e = omega (arith, size-own c (failure e))
 
-queue-fits : (k : QueueCommand) (c : Request) (b : Stream) (q : QueueType) → GoodStream b → Fits (onQueueOf k c b q)
+queue-small : (k : QueueCommand) (c : Request) (b : Stream) (q : QueueType) → GoodStream b → InRoom (onQueueOf k c b q)
 unfolding onCreateResource onQueue onDestroyAll onClear onGet onSet
-queue-fits createResource c b q g = walk Fits c _ (fails c) (λ h₁ h₂ h₃ h₄ h₅ h₆ h₇. succeeds c)
-queue-fits queueResource c b q g = walk Fits c _ (fails c) (λ h₁ h₂ h₃ h₄ h₅. omega arith)
-queue-fits destroyAll c b q g = walk Fits c _ (fails c) (λ h. succeeds c)
-queue-fits clear c b q g =
+queue-small createResource c b q g = walk InRoom c _ (fail-small c) (λ h₁ h₂ h₃ h₄ h₅ h₆ h₇. success-small c)
+queue-small queueResource c b q g = walk InRoom c _ (fail-small c) (λ h₁ h₂ h₃ h₄ h₅. omega arith)
+queue-small destroyAll c b q g = walk InRoom c _ (fail-small c) (λ h. success-small c)
+queue-small clear c b q g =
     let n = c .stream in
     let d = drainAnswers n (drainEnded q b) in
     omega (
@@ -81,12 +81,12 @@ queue-fits clear c b q g =
       size-drain n (drainEnded q b),
       size-own c success,
     )
-queue-fits getParameters c b q g = omega (arith, size-own c (parameters (parameterWords q b)), length-parameters q b)
-queue-fits setParameters c b q g = walk Fits c _ (fails c) (λ h₁ h₂ h₃ h₄. succeeds c)
+queue-small getParameters c b q g = omega (arith, size-own c (parameters (parameterWords q b)), length-parameters q b)
+queue-small setParameters c b q g = walk InRoom c _ (fail-small c) (λ h₁ h₂ h₃ h₄. success-small c)
 
-destroy-fits : (c : Request) (b : Stream) → GoodStream b → Fits (onDestroy c b)
+destroy-small : (c : Request) (b : Stream) → GoodStream b → InRoom (onDestroy c b)
 unfolding onDestroy
-destroy-fits c b g =
+destroy-small c b g =
     let n = c .stream in
     let i = stoppedAnswers n input (buffers input b) in
     let o = stoppedAnswers n output (buffers output b) in
@@ -102,25 +102,25 @@ destroy-fits c b g =
       size-own c success,
     )
 
-live-fits : (k : LiveCommand) (c : Request) (b : Stream) → GoodStream b → Fits (onLive k c b)
+live-fits : (k : LiveCommand) (c : Request) (b : Stream) → GoodStream b → InRoom (onLive k c b)
 unfolding onDrain
-live-fits k c b g = live-cases Fits c b (fails c) (destroy-fits c b g) (walk Fits c _ (fails c) (λ h. omega arith)) (λ j q. queue-fits j c b q g) k
+live-fits k c b g = live-cases InRoom c b (fail-small c) (destroy-small c b g) (walk InRoom c _ (fail-small c) (λ h. omega arith)) (λ j q. queue-small j c b q g) k
 
-command-fits : (around : Surroundings) (c : Request) → GoodSelf (c .self) → Fits (onCommand around c)
+command-small : (around : Surroundings) (c : Request) → GoodSelf (c .self) → InRoom (onCommand around c)
 unfolding onCreate
-command-fits around c g =
-    command-cases Fits around c (fails c)
-    (λ e. walk Fits c _ (fails c) (λ h₁ h₂ h₃ h₄ h₅. succeeds c))
+command-small around c g =
+    command-cases InRoom around c (fail-small c)
+    (λ e. walk InRoom c _ (fail-small c) (λ h₁ h₂ h₃ h₄ h₅. success-small c))
     (λ k b e. live-fits k c b (subst GoodSelf e g))
 
-serve-fits : (around : Surroundings) (n : ℕ) (self : Option Stream) (a : Act) → GoodSelf self → Fits (serve around n self a)
+serve-small : (around : Surroundings) (n : ℕ) (self : Option Stream) (a : Act) → GoodSelf self → InRoom (serve around n self a)
 unfolding serve
-serve-fits around n self (command t f) g = command-fits around (record { stream = n; ticket = t; frame = f; self = self }) g
-serve-fits around n self (finish k qt r flags ts) g =
-    finish-cases Fits n qt r flags ts self (omega arith) (omega arith) (λ q b i e f. omega (arith, size-cons (i .ticket) n (bufferDone q (timestampOf q i ts) flags) []))
-serve-fits around n self (drained k) g = drained-cases Fits n self (omega arith) (λ b t e f. omega (arith, size-cons t n drainDone []))
+serve-small around n self (command t f) g = command-small around (record { stream = n; ticket = t; frame = f; self = self }) g
+serve-small around n self (finish k qt r flags ts) g =
+    finish-cases InRoom n qt r flags ts self (omega arith) (omega arith) (λ q b i e f. omega (arith, size-cons (i .ticket) n (bufferDone q (timestampOf q i ts) flags) []))
+serve-small around n self (drained k) g = drained-cases InRoom n self (omega arith) (λ b t e f. omega (arith, size-cons t n drainDone []))
 
 pub fits-room : FitsRoom
 fits-room d s h =
-    step-cases (λ (o : Outcome). size (o .answers) ≤ answerRoom) d s (λ k. omega arith)
-    (λ n e. serve-fits (around d n) n (recordOf n (d .places)) (s .act) (well-record n d h))
+    step-cases (λ (o : DeviceReply). size (o .answers) ≤ answerRoom) d s (λ k. omega arith)
+    (λ n e. serve-small (around d n) n (recordOf n (d .places)) (s .act) (well-record n d h))

@@ -7,10 +7,10 @@ use mathlib.Core.List.{List, [], _∷_}
 use lib.Dec.{eqb}
 use borrow.Author.Tests.{eqb-true}
 use Rattle.laws.specs.Lists.{keep}
-use Rattle.laws.specs.Ascending.{insert}
+use Rattle.laws.specs.Ascending.{insertBy}
 use Rattle.model.specs.Device.{State, created, queued, dequeued, Slot, free, resource, Buffer, buffer, queuedIn, byResource, bufferOf, present, addResource, setState, stopAll, freeAll}
 use Rattle.laws.proofs.Tests.{never}
-use Rattle.laws.proofs.Lists.{decide, eqb-sym, insert-comm}
+use Rattle.laws.proofs.Lists.{decide, eqb-sym, insertBy-comm}
 
 abbrev pub byRes : Buffer → ℕ
 byRes i = i .resource
@@ -83,20 +83,20 @@ queued-only r i (resource m dequeued ∷ s) d h = queued-only r i s (d .1) h
 
 -- a queueing puts one buffer in its order
 pub queued-more : (r t ts : ℕ) (s : List Slot) → Distinct s → present r s ≡ true → bufferOf r (queuedIn s) ≡ none
-    → byResource (queuedIn (setState r (queued t ts) s)) ≡ insert byRes (buffer r t ts) (byResource (queuedIn s))
+    → byResource (queuedIn (setState r (queued t ts) s)) ≡ insertBy byRes (buffer r t ts) (byResource (queuedIn s))
 queued-more r t ts [] d p h = never (sym p)
 queued-more r t ts (free ∷ s) d p h = queued-more r t ts s d p h
 queued-more r t ts (resource m created ∷ s) d p h =
     decide (eqb m r)
-    (λ e. simp (e, absent-set r (queued t ts) s (ap (λ x. present x s) (sym (eqb-true m r e)) ∙ d .0)) (ap (λ x. insert byRes (buffer x t ts) (byResource (queuedIn s))) (eqb-true m r e)))
+    (λ e. simp (e, absent-set r (queued t ts) s (ap (λ x. present x s) (sym (eqb-true m r e)) ∙ d .0)) (ap (λ x. insertBy byRes (buffer x t ts) (byResource (queuedIn s))) (eqb-true m r e)))
     (λ e. simp e (queued-more r t ts s (d .1) (simp e at p) h))
 queued-more r t ts (resource m (queued t₀ ts₀) ∷ s) d p h =
     decide (eqb m r)
     (λ e. let z : some (buffer m t₀ ts₀) ≡ none = simp e at h in cc)
-    (λ e. simp (e, queued-more r t ts s (d .1) (simp e at p) (simp e at h)) (insert-comm byRes (buffer m t₀ ts₀) (buffer r t ts) (byResource (queuedIn s)) e))
+    (λ e. simp (e, queued-more r t ts s (d .1) (simp e at p) (simp e at h)) (insertBy-comm byRes (buffer m t₀ ts₀) (buffer r t ts) (byResource (queuedIn s)) e))
 queued-more r t ts (resource m dequeued ∷ s) d p h =
     decide (eqb m r)
-    (λ e. simp (e, absent-set r (queued t ts) s (ap (λ x. present x s) (sym (eqb-true m r e)) ∙ d .0)) (ap (λ x. insert byRes (buffer x t ts) (byResource (queuedIn s))) (eqb-true m r e)))
+    (λ e. simp (e, absent-set r (queued t ts) s (ap (λ x. present x s) (sym (eqb-true m r e)) ∙ d .0)) (ap (λ x. insertBy byRes (buffer x t ts) (byResource (queuedIn s))) (eqb-true m r e)))
     (λ e. simp e (queued-more r t ts s (d .1) (simp e at p) h))
 
 -- numbers stay distinct

@@ -15,11 +15,11 @@ use Rattle.laws.proofs.Same.{same-refl}
 use Rattle.model.specs.Numbers.{tableWords, answerRoom}
 use Rattle.model.specs.Device.{Device, fresh, recordOf}
 use Rattle.model.specs.Answers.{bytesOf}
-use Rattle.model.specs.Steps.{Step, Outcome, perform, hostRefusal, step, Entry, entryOf, entriesOf, final}
+use Rattle.model.specs.Steps.{Step, DeviceReply, perform, hostRefusal, stepOn, Event, eventOf, eventsOf, final}
 use Rattle.model.specs.WellFormed.{wellFormed, goodAct, goodSteps}
-use Rattle.model.specs.Tables.{Layout, Lawful, Effect, untouched, valid, carriedOut, effect, Freshened, freshen, effectOf, tableEntry, tableEntries, tableFinal}
+use Rattle.model.specs.Tables.{Layout, Lawful, Effect, untouched, valid, carriedOut, effect, Freshened, freshen, effectOf, tableEvent, tableEvents, tableFinal}
 use Rattle.model.specs.Promises.{unmarked, FreshShort, FreshLong, NoMarkInTables}
-use Rattle.model.specs.Condition3.{Run, ownEntries, stepsOf, Condition3, onDevice, onTable, OnTables}
+use Rattle.model.specs.Condition3.{Run, ownEvents, stepsOf, Condition3, onDevice, onTable, OnTables}
 use Rattle.model.proofs.WellFormed.{well-fresh, stays-well-formed}
 use Rattle.model.proofs.Marks.{no-mark}
 use Rattle.model.proofs.Condition3.{condition3}
@@ -68,7 +68,7 @@ module _ (L : Layout) (law : Lawful L) (rest : List ℕ) where
     words-valid = both (ap wellFormed device-is ∙ h) (ap₂ same used (ap (L .encode) device-is) ∙ same-refl (L .encode d))
 
     -- a step on the words does what it does on the device
-    same-effect : (s : Step) → (tableEntry L s (effectOf L (wordsOf d) s) ≡ entryOf s (step d s)) × (effectOf L (wordsOf d) s .table ≡ wordsOf (step d s .device))
+    same-effect : (s : Step) → (tableEvent L s (effectOf L (wordsOf d) s) ≡ eventOf s (stepOn d s)) × (effectOf L (wordsOf d) s .table ≡ wordsOf (stepOn d s .device))
     unfolding effect
     same-effect s =
         let t = wordsOf d in
@@ -77,38 +77,38 @@ module _ (L : Layout) (law : Lawful L) (rest : List ℕ) where
         (λ e.
         let o = perform d (s .act) in
         let is : effectOf L t s ≡ carriedOut L o t (s .room) = simp (k, e) (ap (λ (x : Device). carriedOut L (perform x (s .act)) t (s .room)) device-is) in (
-          ap (tableEntry L s) is ∙ (λ i. record {
+          ap (tableEvent L s) is ∙ (λ i. record {
             step = s;
             refusal = o .refusal;
             written = length (bytesOf (o .answers));
             bytes = take-at (bytesOf (o .answers)) (drop (length (bytesOf (o .answers))) (s .room)) (length (bytesOf (o .answers))) refl i;
-          }) ∙ ap (entryOf s) (sym (step-runs d s e)),
-          ap (λ (x : Effect). x .table) is ∙ ap (λ (x : List ℕ). L .encode (o .device) ++ x) behind ∙ ap (λ (x : Outcome). wordsOf (x .device)) (sym (step-runs d s e)),
+          }) ∙ ap (eventOf s) (sym (step-runs d s e)),
+          ap (λ (x : Effect). x .table) is ∙ ap (λ (x : List ℕ). L .encode (o .device) ++ x) behind ∙ ap (λ (x : DeviceReply). wordsOf (x .device)) (sym (step-runs d s e)),
         ))
         (λ e.
         let is : effectOf L t s ≡ untouched (roomRefusal s) t (s .room) = simp (k, e) in
-        (ap (tableEntry L s) is ∙ ap (entryOf s) (sym (step-refused d s e)), ap (λ (x : Effect). x .table) is ∙ ap (λ (x : Outcome). wordsOf (x .device)) (sym (step-refused d s e))))
+        (ap (tableEvent L s) is ∙ ap (eventOf s) (sym (step-refused d s e)), ap (λ (x : Effect). x .table) is ∙ ap (λ (x : DeviceReply). wordsOf (x .device)) (sym (step-refused d s e))))
 
   -- and so over a list
 
-  same-log : (d : Device) (ss : List Step) → wellFormed d ≡ true → goodSteps ss ≡ true → tableEntries L (wordsOf d) ss ≡ entriesOf d ss
+  same-log : (d : Device) (ss : List Step) → wellFormed d ≡ true → goodSteps ss ≡ true → tableEvents L (wordsOf d) ss ≡ eventsOf d ss
   same-log d [] h m = refl
   same-log d (s ∷ ss) h m =
       let here = same-effect d h s in
-      ap₂ (λ (x : Entry) (y : List Entry). x ∷ y) (here .0)
-      (ap (λ (t : List ℕ). tableEntries L t ss) (here .1)
-      ∙ same-log (step d s .device) ss (stays-well-formed d s h (and-left (goodAct (s .act)) (goodSteps ss) m)) (and-right (goodAct (s .act)) (goodSteps ss) m))
+      ap₂ (λ (x : Event) (y : List Event). x ∷ y) (here .0)
+      (ap (λ (t : List ℕ). tableEvents L t ss) (here .1)
+      ∙ same-log (stepOn d s .device) ss (stays-well-formed d s h (and-left (goodAct (s .act)) (goodSteps ss) m)) (and-right (goodAct (s .act)) (goodSteps ss) m))
 
   same-final : (d : Device) (ss : List Step) → wellFormed d ≡ true → goodSteps ss ≡ true → tableFinal L (wordsOf d) ss ≡ wordsOf (final d ss)
   same-final d [] h m = refl
   same-final d (s ∷ ss) h m =
       ap (λ (t : List ℕ). tableFinal L t ss) (same-effect d h s .1)
-      ∙ same-final (step d s .device) ss (stays-well-formed d s h (and-left (goodAct (s .act)) (goodSteps ss) m)) (and-right (goodAct (s .act)) (goodSteps ss) m)
+      ∙ same-final (stepOn d s .device) ss (stays-well-formed d s h (and-left (goodAct (s .act)) (goodSteps ss) m)) (and-right (goodAct (s .act)) (goodSteps ss) m)
 
 final-well : (d : Device) (ss : List Step) → wellFormed d ≡ true → goodSteps ss ≡ true → wellFormed (final d ss) ≡ true
 final-well d [] h m = h
 final-well d (s ∷ ss) h m =
-    final-well (step d s .device) ss (stays-well-formed d s h (and-left (goodAct (s .act)) (goodSteps ss) m)) (and-right (goodAct (s .act)) (goodSteps ss) m)
+    final-well (stepOn d s .device) ss (stays-well-formed d s h (and-left (goodAct (s .act)) (goodSteps ss) m)) (and-right (goodAct (s .act)) (goodSteps ss) m)
 
 -- Condition 3 over tables
 
@@ -118,47 +118,47 @@ fresh-is L t h = simp (le-ltb (length t) tableWords h)
 
 -- a list shows the same on a fresh table as on a fresh device
 module _ (L : Layout) (law : Lawful L) (t : List ℕ) (h : tableWords ≤ length t) where
-  start : freshen L t .table ≡ wordsOf L law (drop tableWords t) fresh
-  start = ap (λ (x : Freshened). x .table) (fresh-is L t h)
+  fresh-start : freshen L t .table ≡ wordsOf L law (drop tableWords t) fresh
+  fresh-start = ap (λ (x : Freshened). x .table) (fresh-is L t h)
 
   pub same-run : (ss : List Step) → goodSteps ss ≡ true → onTable L t ss ≡ onDevice ss
   same-run ss m =
       let rest = drop tableWords t in
-      let entries : tableEntries L (freshen L t .table) ss ≡ entriesOf fresh ss = ap (λ (x : List ℕ). tableEntries L x ss) start ∙ same-log L law rest fresh ss well-fresh m in
-      let held : L .decode (take tableWords (tableFinal L (freshen L t .table) ss)) ≡ final fresh ss =
-      ap (λ (x : List ℕ). L .decode (take tableWords (tableFinal L x ss))) start
+      let events : tableEvents L (freshen L t .table) ss ≡ eventsOf fresh ss = ap (λ (x : List ℕ). tableEvents L x ss) fresh-start ∙ same-log L law rest fresh ss well-fresh m in
+      let records : L .decode (take tableWords (tableFinal L (freshen L t .table) ss)) ≡ final fresh ss =
+      ap (λ (x : List ℕ). L .decode (take tableWords (tableFinal L x ss))) fresh-start
       ∙ ap (λ (x : List ℕ). L .decode (take tableWords x)) (same-final L law rest fresh ss well-fresh m)
       ∙ device-is L law rest (final fresh ss) (final-well fresh ss well-fresh m) in
-      λ i. record { entries = entries i; held = λ n. recordOf n (held i .places) }
+      λ i. record { events = events i; records = λ n. recordOf n (records i .places) }
 
   end-valid : (ss : List Step) → goodSteps ss ≡ true → valid L (tableFinal L (freshen L t .table) ss) ≡ true
   end-valid ss m =
       let rest = drop tableWords t in
-      ap (λ (x : List ℕ). valid L (tableFinal L x ss)) start
+      ap (λ (x : List ℕ). valid L (tableFinal L x ss)) fresh-start
       ∙ ap (valid L) (same-final L law rest fresh ss well-fresh m)
       ∙ words-valid L law rest (final fresh ss) (final-well fresh ss well-fresh m)
 
 -- the steps of a stream are steps in the host's types
 
-good-log : (d : Device) (ss : List Step) → goodSteps ss ≡ true → allOf (λ (e : Entry). goodAct (e .step .act)) (entriesOf d ss) ≡ true
+good-log : (d : Device) (ss : List Step) → goodSteps ss ≡ true → allOf (λ (e : Event). goodAct (e .step .act)) (eventsOf d ss) ≡ true
 good-log d [] m = refl
-good-log d (s ∷ ss) m = both (and-left (goodAct (s .act)) (goodSteps ss) m) (good-log (step d s .device) ss (and-right (goodAct (s .act)) (goodSteps ss) m))
+good-log d (s ∷ ss) m = both (and-left (goodAct (s .act)) (goodSteps ss) m) (good-log (stepOn d s .device) ss (and-right (goodAct (s .act)) (goodSteps ss) m))
 
-good-steps : (es : List Entry) → allOf (λ (e : Entry). goodAct (e .step .act)) es ≡ true → goodSteps (stepsOf es) ≡ true
+good-steps : (es : List Event) → allOf (λ (e : Event). goodAct (e .step .act)) es ≡ true → goodSteps (stepsOf es) ≡ true
 good-steps [] m = refl
 good-steps (e ∷ es) m = both (and-left (goodAct (e .step .act)) _ m) (good-steps es (and-right (goodAct (e .step .act)) _ m))
 
 -- the same run, with another way to run steps alone that shows the same
-other-alone : (run : Run) (alone alone′ : List Step → Run) → ((n : ℕ) → alone (stepsOf (ownEntries n (run .entries))) ≡ alone′ (stepsOf (ownEntries n (run .entries))))
+other-alone : (run : Run) (alone alone′ : List Step → Run) → ((n : ℕ) → alone (stepsOf (ownEvents n (run .events))) ≡ alone′ (stepsOf (ownEvents n (run .events))))
     → Condition3 run alone′ → Condition3 run alone
 other-alone run alone alone′ same c =
     record {
       isolated = λ n h.
           let a = c .isolated n h in
-          (a .0 ∙ ap (λ (r : Run). r .entries) (sym (same n)), a .1 ∙ ap (λ (r : Run). r .held n) (sym (same n)));
-      framed = c .framed;
+          (a .0 ∙ ap (λ (r : Run). r .events) (sym (same n)), a .1 ∙ ap (λ (r : Run). r .records n) (sym (same n)));
+      wholeAnswers = c .wholeAnswers;
       answered = c .answered;
-      owes = c .owes;
+      pendingExactly = c .pendingExactly;
       once = c .once;
       destroyed = c .destroyed;
     }
@@ -167,7 +167,7 @@ pub on-tables : (L : Layout) → Lawful L → OnTables L
 on-tables L law t u ss h g m = (
   subst (λ (r : Run). Condition3 r (onTable L u)) (sym (same-run L law t h ss m))
       (other-alone (onDevice ss) (onTable L u) onDevice
-      (λ n. same-run L law u g (stepsOf (ownEntries n (entriesOf fresh ss))) (good-steps (ownEntries n (entriesOf fresh ss)) (all-keep _ _ (entriesOf fresh ss) (good-log fresh ss m))))
+      (λ n. same-run L law u g (stepsOf (ownEvents n (eventsOf fresh ss))) (good-steps (ownEvents n (eventsOf fresh ss)) (all-keep _ _ (eventsOf fresh ss) (good-log fresh ss m))))
       (condition3 ss m)),
   end-valid L law t h ss m,
 )
@@ -181,7 +181,7 @@ fresh-short L t h = simp (lt-ltb (length t) tableWords h)
 pub fresh-long : (L : Layout) → Lawful L → FreshLong L
 fresh-long L law t h =
     let rest = drop tableWords t in
-    let is = start L law t h in
+    let is = fresh-start L law t h in
     record {
       result = fresh-result;
       good = ap (valid L) is ∙ words-valid L law rest fresh well-fresh;
@@ -197,7 +197,7 @@ fresh-long L law t h =
 pub no-mark-in-tables : (L : Layout) → Lawful L → NoMarkInTables L
 no-mark-in-tables L law t ss h m =
     let rest = drop tableWords t in
-    ap (λ (x : List ℕ). allOf unmarked (L .decode (take tableWords (tableFinal L x ss)) .places)) (start L law t h)
+    ap (λ (x : List ℕ). allOf unmarked (L .decode (take tableWords (tableFinal L x ss)) .places)) (fresh-start L law t h)
     ∙ ap (λ (x : List ℕ). allOf unmarked (L .decode (take tableWords x) .places)) (same-final L law rest fresh ss well-fresh m)
     ∙ ap (λ (d : Device). allOf unmarked (d .places)) (device-is L law rest (final fresh ss) (final-well fresh ss well-fresh m))
     ∙ no-mark ss

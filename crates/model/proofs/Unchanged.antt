@@ -15,34 +15,34 @@ use Rattle.laws.proofs.Same.{same-true}
 use Rattle.field.specs.Field.{field, littleEndian}
 use Rattle.model.specs.Numbers.{tableWords}
 use Rattle.model.specs.Device.{Stream, Device, recordOf, withPlaces, putBack}
-use Rattle.model.specs.Answers.{ErrorCode, failure, words, responseBytes, bytesOf, answersIn}
+use Rattle.model.specs.Answers.{ErrorCode, failure, wordBytes, responseBytes, bytesOf, answersIn}
 use Rattle.model.specs.Replies.{Reply, refuse}
-use Rattle.model.specs.Steps.{Act, command, finish, drained, Step, streamOf, serve, Outcome, refused, around, performOf, perform, hostRefusal, step, accepted, entryOf}
+use Rattle.model.specs.Steps.{Act, command, finish, drained, Step, streamOf, serve, DeviceReply, refused, around, performOf, perform, hostRefusal, stepOn, accepted, eventOf}
 use Rattle.model.specs.WellFormed.{wellFormed, goodAct}
-use Rattle.model.specs.Tables.{Layout, Lawful, Effect, untouched, valid, carriedOut, effect, tableEntry}
-use Rattle.model.specs.Promises.{written, RefusalChangesNothing, OneError, ErrorChangesNothing, RestStays, KeepsRest, StaysValid, WritesAtMost}
-use Rattle.model.specs.Ledger.{ticketIn}
+use Rattle.model.specs.Tables.{Layout, Lawful, Effect, untouched, valid, carriedOut, effect, tableEvent}
+use Rattle.model.specs.Promises.{asWritten, RefusalChangesNothing, OneError, ErrorChangesNothing, RestStays, KeepsRest, StaysValid, WritesAtMost}
+use Rattle.model.specs.Ledger.{stepTicket}
 use Rattle.model.proofs.Places.{put-self}
-use Rattle.model.proofs.Cases.{finish-cases, drained-cases}
+use Rattle.model.proofs.Origins.{finish-cases, drained-cases}
 use Rattle.model.proofs.WellFormed.{well-places, stays-well-formed}
 use Rattle.model.proofs.ReadBack.{read-back}
 use Rattle.model.proofs.Room.{fits-room}
 use Rattle.model.proofs.Fits.{fails, acceptedReply, Rejected, byHost, byError, FitsAct, serve-fits}
 use Rattle.model.proofs.Isolation.{step-runs}
-use Rattle.model.proofs.Condition3.{sane-record, stream-is, accepted-is}
+use Rattle.model.proofs.Condition3.{sane-record, step-stream-is, accepted-is}
 use Rattle.model.proofs.Tables.{Lent, not-refused, valid-refusal, words-valid}
 
-abbrev acceptedOutcome : Outcome → Bool
-acceptedOutcome o = eqb (o .refusal) 0 && not (anyOf fails (o .answers))
+abbrev acceptedDeviceReply : DeviceReply → Bool
+acceptedDeviceReply o = eqb (o .refusal) 0 && not (anyOf fails (o .answers))
 
 -- not accepted: a refusal number, or one error answer to a command; the device stays
-data NotAccepted (d : Device) (a : Act) : Outcome → Type 0 where
+data NotAccepted (d : Device) (a : Act) : DeviceReply → Type 0 where
   numbered : (k : ℕ) → eqb k 0 ≡ false → NotAccepted d a (refused k d)
-  answered : (t : ℕ) (f : List ℕ) (e : ErrorCode) → a ≡ command t f
+  byAnswer : (t : ℕ) (f : List ℕ) (e : ErrorCode) → a ≡ command t f
       → NotAccepted d a (record { refusal = 0; answers = record { ticket = t; stream = field 4 f 4; response = failure e } ∷ []; device = d })
 
-abbrev outcomeOf : Device → ℕ → Reply → Outcome
-outcomeOf d n v = record { refusal = v .refusal; answers = v .answers; device = putBack n (v .next) d }
+abbrev deviceReply : Device → ℕ → Reply → DeviceReply
+deviceReply d n v = record { refusal = v .refusal; answers = v .answers; device = putBack n (v .next) d }
 
 -- a report that is not accepted has a number
 abbrev Numbered : Reply → Type 0
@@ -55,46 +55,46 @@ module _ (d : Device) (h : wellFormed d ≡ true) (n : ℕ) where
   back : putBack n self d ≡ d
   back = ap (λ ps. withPlaces ps d) (put-self n (d .places) ((well-places d h) .apart))
 
-  by-number : (a : Act) (k : ℕ) → eqb k 0 ≡ false → NotAccepted d a (outcomeOf d n (refuse k self))
+  by-number : (a : Act) (k : ℕ) → eqb k 0 ≡ false → NotAccepted d a (deviceReply d n (refuse k self))
   by-number a k z = subst (λ (x : Device). NotAccepted d a (record { refusal = k; answers = []; device = x })) (sym back) (numbered k z)
 
   -- by a number, or a command by an error
-  asked : (t : ℕ) (f : List ℕ) (v : Reply) → n ≡ field 4 f 4 → Rejected n t self v → NotAccepted d (command t f) (outcomeOf d n v)
+  asked : (t : ℕ) (f : List ℕ) (v : Reply) → n ≡ field 4 f 4 → Rejected n t self v → NotAccepted d (command t f) (deviceReply d n v)
   asked t f _ s (byHost k z) = by-number (command t f) k z
   asked t f _ s (byError e) =
       subst (λ (x : Device). NotAccepted d (command t f) (record { refusal = 0; answers = record { ticket = t; stream = n; response = failure e } ∷ []; device = x })) (sym back)
       (subst (λ (m : ℕ). NotAccepted d (command t f) (record { refusal = 0; answers = record { ticket = t; stream = m; response = failure e } ∷ []; device = d })) (sym s)
-      (answered t f e refl))
+      (byAnswer t f e refl))
 
-  report : (a : Act) (v : Reply) → Rejected n (ticketIn a) self v → eqb (v .refusal) 0 ≡ false → NotAccepted d a (outcomeOf d n v)
+  report : (a : Act) (v : Reply) → Rejected n (stepTicket a) self v → eqb (v .refusal) 0 ≡ false → NotAccepted d a (deviceReply d n v)
   report a _ (byHost k z) e = by-number a k z
   report a _ (byError x) e = never e
 
-  numbered-report : (a : Act) (v : Reply) → Rejected n (ticketIn a) self v → Numbered v → acceptedReply v ≡ false → NotAccepted d a (outcomeOf d n v)
+  numbered-report : (a : Act) (v : Reply) → Rejected n (stepTicket a) self v → Numbered v → acceptedReply v ≡ false → NotAccepted d a (deviceReply d n v)
   numbered-report a v r h acc = report a v r (h acc)
 
-  named : (a : Act) → streamOf a ≡ some n → acceptedReply (serve (around d n) n self a) ≡ false → NotAccepted d a (outcomeOf d n (serve (around d n) n self a))
+  with-owner : (a : Act) → streamOf a ≡ some n → acceptedReply (serve (around d n) n self a) ≡ false → NotAccepted d a (deviceReply d n (serve (around d n) n self a))
   unfolding serve
-  named a s acc = of a s acc (fit a .rejected (sym (fit a .is) ∙ acc))
+  with-owner a s acc = of a s acc (fit a .rejected (sym (fit a .is) ∙ acc))
     where
       fit : (a : Act) → FitsAct n a self (serve (around d n) n self a)
       fit a = serve-fits (around d n) n self a (sane-record n d h)
 
-      of : (a : Act) → streamOf a ≡ some n → acceptedReply (serve (around d n) n self a) ≡ false → Rejected n (ticketIn a) self (serve (around d n) n self a)
-          → NotAccepted d a (outcomeOf d n (serve (around d n) n self a))
-      of (command t f) s acc r = asked t f (serve (around d n) n self (command t f)) (stream-is (command t f) n s) r
+      of : (a : Act) → streamOf a ≡ some n → acceptedReply (serve (around d n) n self a) ≡ false → Rejected n (stepTicket a) self (serve (around d n) n self a)
+          → NotAccepted d a (deviceReply d n (serve (around d n) n self a))
+      of (command t f) s acc r = asked t f (serve (around d n) n self (command t f)) (step-stream-is (command t f) n s) r
       of (finish m qt x flags ts) s acc r =
           numbered-report (finish m qt x flags ts) (serve (around d n) n self (finish m qt x flags ts)) r
           (finish-cases Numbered n qt x flags ts self (λ _. refl) (λ _. refl) (λ q b i e f z. never z)) acc
       of (drained m) s acc r =
           numbered-report (drained m) (serve (around d n) n self (drained m)) r (drained-cases Numbered n self (λ _. refl) (λ b t e f z. never z)) acc
 
-not-accepted : (d : Device) (a : Act) → wellFormed d ≡ true → acceptedOutcome (perform d a) ≡ false → NotAccepted d a (perform d a)
+not-accepted : (d : Device) (a : Act) → wellFormed d ≡ true → acceptedDeviceReply (perform d a) ≡ false → NotAccepted d a (perform d a)
 not-accepted d a h = of (streamOf a) refl
   where
-    of : (o : Option ℕ) → streamOf a ≡ o → acceptedOutcome (performOf d a o) ≡ false → NotAccepted d a (performOf d a o)
+    of : (o : Option ℕ) → streamOf a ≡ o → acceptedDeviceReply (performOf d a o) ≡ false → NotAccepted d a (performOf d a o)
     of none e z = numbered 4 refl
-    of (some n) e z = named d h n a e z
+    of (some n) e z = with-owner d h n a e z
 
 -- Over tables
 
@@ -105,8 +105,8 @@ module _ (L : Layout) (t : List ℕ) (a : Act) (room : List ℕ) where
   abbrev device : Device
   device = L .decode (take tableWords t)
 
-  abbrev outcome : Outcome
-  outcome = perform device a
+  abbrev performed : DeviceReply
+  performed = perform device a
 
   abbrev it : Effect
   it = effect L t a room
@@ -119,7 +119,7 @@ module _ (L : Layout) (t : List ℕ) (a : Act) (room : List ℕ) where
   it-refused e = simp e
 
   module _ (e : eqb k 0 ≡ true) where
-    carried : it ≡ carriedOut L outcome t room
+    carried : it ≡ carriedOut L performed t room
     unfolding effect
     carried = simp e
 
@@ -137,46 +137,46 @@ module _ (L : Layout) (t : List ℕ) (a : Act) (room : List ℕ) where
         ap (λ (x : List ℕ). x ++ drop tableWords t) (sym (same-true (take tableWords t) (L .encode device) (and-right (wellFormed device) (same (take tableWords t) (L .encode device)) (lent .good))))
         ∙ take-append-drop tableWords t
 
-    stepped : step device asStep ≡ outcome
+    stepped : stepOn device asStep ≡ performed
     stepped =
         step-runs device asStep
         (ap (λ (j : ℕ). eqb j 0) (sym (valid-refusal (length t) (length room) (valid L t) (lent .enough) (lent .good))) ∙ e)
 
     bytes : List ℕ
-    bytes = bytesOf (outcome .answers)
+    bytes = bytesOf (performed .answers)
 
-    fits : length (bytesOf (outcome .answers)) ≤ length room
-    fits = omega (arith, ap (λ (o : Outcome). length (bytesOf (o .answers))) stepped, fits-room device asStep well, lent .spacious)
+    fits : length (bytesOf (performed .answers)) ≤ length room
+    fits = omega (arith, ap (λ (o : DeviceReply). length (bytesOf (o .answers))) stepped, fits-room device asStep well, lent .spacious)
 
-    still-well : goodAct a ≡ true → wellFormed (outcome .device) ≡ true
-    still-well m = ap (λ (o : Outcome). wellFormed (o .device)) (sym stepped) ∙ stays-well-formed device asStep well m
+    still-well : goodAct a ≡ true → wellFormed (performed .device) ≡ true
+    still-well m = ap (λ (o : DeviceReply). wellFormed (o .device)) (sym stepped) ∙ stays-well-formed device asStep well m
 
     -- a refusal of the step itself
-    numbers : (o : Outcome) → NotAccepted device a o → eqb (o .refusal) 0 ≡ false → carriedOut L o t room ≡ untouched (o .refusal) t room
+    numbers : (o : DeviceReply) → NotAccepted device a o → eqb (o .refusal) 0 ≡ false → carriedOut L o t room ≡ untouched (o .refusal) t room
     numbers _ (numbered j z) h = ap (λ (x : List ℕ). record { refusal = j; written = 0; table = x; room = room }) stays
-    numbers _ (answered u f x is) h = never h
+    numbers _ (byAnswer u f x is) h = never h
 
     -- an error answer
-    errors : (o : Outcome) → NotAccepted device a o → o .refusal ≡ 0 → OneError t a (carriedOut L o t room)
+    errors : (o : DeviceReply) → NotAccepted device a o → o .refusal ≡ 0 → OneError t a (carriedOut L o t room)
     unfolding responseBytes littleEndian
     errors _ (numbered j z) h = never (sym (ap (λ (x : ℕ). eqb x 0) h) ∙ z)
-    errors _ (answered u f x is) h = record { ticket = u; frame = f; error = x; asked = is; sixteen = refl; answer = refl; stays = stays }
+    errors _ (byAnswer u f x is) h = record { ticket = u; frame = f; error = x; asked = is; sixteen = refl; answer = refl; stays = stays }
 
-    shows : tableEntry L asStep it ≡ entryOf asStep outcome
-    shows =
-        ap (tableEntry L asStep) carried
+    event-is : tableEvent L asStep it ≡ eventOf asStep performed
+    event-is =
+        ap (tableEvent L asStep) carried
         ∙ (λ i. record {
           step = asStep;
-          refusal = outcome .refusal;
-          written = length (bytesOf (outcome .answers));
-          bytes = take-at (bytesOf (outcome .answers)) (drop (length (bytesOf (outcome .answers))) room) (length (bytesOf (outcome .answers))) refl i;
+          refusal = performed .refusal;
+          written = length (bytesOf (performed .answers));
+          bytes = take-at (bytesOf (performed .answers)) (drop (length (bytesOf (performed .answers))) room) (length (bytesOf (performed .answers))) refl i;
         })
 
     rest : Lawful L → goodAct a ≡ true → RestStays t room it
     rest law m =
-        let b = bytesOf (outcome .answers) in
-        let w = L .encode (outcome .device) in
-        let size : length w ≡ tableWords = law .size (outcome .device) (still-well m) in
+        let b = bytesOf (performed .answers) in
+        let w = L .encode (performed .device) in
+        let size : length w ≡ tableWords = law .size (performed .device) (still-well m) in
         let long = lent .enough in
         let room-fits = fits in
         subst (RestStays t room) (sym carried)
@@ -188,15 +188,15 @@ module _ (L : Layout) (t : List ℕ) (a : Act) (room : List ℕ) where
         })
 
     still-valid : Lawful L → goodAct a ≡ true → valid L (it .table) ≡ true
-    still-valid law m = ap (λ (x : Effect). valid L (x .table)) carried ∙ words-valid L law (drop tableWords t) (outcome .device) (still-well m)
+    still-valid law m = ap (λ (x : Effect). valid L (x .table)) carried ∙ words-valid L law (drop tableWords t) (performed .device) (still-well m)
 
 pub refusal-changes-nothing : (L : Layout) → RefusalChangesNothing L
 refusal-changes-nothing L t a room r =
     decide (eqb (k L t a room) 0)
     (λ e.
-    let none-zero : eqb (outcome L t a room .refusal) 0 ≡ false = ap (λ (x : Effect). eqb (x .refusal) 0) (sym (carried L t a room e)) ∙ r in
+    let none-zero : eqb (performed L t a room .refusal) 0 ≡ false = ap (λ (x : Effect). eqb (x .refusal) 0) (sym (carried L t a room e)) ∙ r in
     carried L t a room e
-    ∙ numbers L t a room e (outcome L t a room)
+    ∙ numbers L t a room e (performed L t a room)
     (not-accepted (device L t a room) a (well L t a room e) (simp none-zero)) none-zero
     ∙ ap (λ (x : Effect). untouched (x .refusal) t room) (sym (carried L t a room e)))
     (λ e. it-refused L t a room e ∙ ap (λ (x : Effect). untouched (x .refusal) t room) (sym (it-refused L t a room e)))
@@ -208,10 +208,10 @@ error-changes-nothing L t s m z acc =
     decide (eqb (k L t a room) 0)
     (λ e.
     let d = device L t a room in
-    let o = outcome L t a room in
+    let o = performed L t a room in
     let refusal : o .refusal ≡ 0 = ap (λ (x : Effect). x .refusal) (sym (carried L t a room e)) ∙ z in
-    let read = subst (λ (x : Outcome). answersIn (bytesOf (x .answers)) ≡ map written (x .answers)) (stepped L t a room e) (read-back d (asStep L t a room) (well L t a room e) m) in
-    let no : acceptedOutcome o ≡ false = sym (accepted-is s o read) ∙ ap accepted (sym (shows L t a room e)) ∙ acc in
+    let read = subst (λ (x : DeviceReply). answersIn (bytesOf (x .answers)) ≡ map asWritten (x .answers)) (stepped L t a room e) (read-back d (asStep L t a room) (well L t a room e) m) in
+    let no : acceptedDeviceReply o ≡ false = sym (accepted-is s o read) ∙ ap accepted (sym (event-is L t a room e)) ∙ acc in
     subst (OneError t a) (sym (carried L t a room e)) (errors L t a room e o (not-accepted d a (well L t a room e) no) refusal))
     (λ e. never (sym (ap (λ (x : ℕ). eqb x 0) z) ∙ ap (λ (x : Effect). eqb (x .refusal) 0) (it-refused L t a room e) ∙ e))
 
@@ -232,7 +232,7 @@ writes-at-most L t a room =
     omega (
       arith,
       ap (λ (x : Effect). x .written) (carried L t a room e),
-      ap (λ (o : Outcome). length (bytesOf (o .answers))) (stepped L t a room e),
+      ap (λ (o : DeviceReply). length (bytesOf (o .answers))) (stepped L t a room e),
       fits-room (device L t a room) (asStep L t a room) (well L t a room e),
     ))
     (λ e. omega (arith, ap (λ (x : Effect). x .written) (it-refused L t a room e)))

@@ -13,17 +13,17 @@ use Rattle.laws.proofs.Tests.{never, both, and-left, and-right}
 use Rattle.laws.proofs.Lists.{decide, cond-elim, eqb-sym}
 use Rattle.field.specs.Field.{field}
 use Rattle.model.specs.Numbers.{streamPlaces, queueSlots, firstCoded, lastCoded, headerBytes}
-use Rattle.model.specs.Device.{QueueType, input, output, State, created, queued, dequeued, Slot, free, resource, Queue, Stream, Place, vacant, occupied, Device, newQueue, newStream, fresh, queueOf, withQueue, withDrain, withSlots, present, addResource, setState, stopped, stopAll, freeAll, recordOf, place, replace, install, put}
+use Rattle.model.specs.Device.{QueueType, input, output, State, created, queued, dequeued, Slot, free, resource, Queue, Stream, Place, vacant, occupied, Device, newQueue, newStream, fresh, queueOf, withQueue, withDrain, withSlots, present, addResource, setState, stopped, stopAll, freeAll, recordOf, place, replace, install, putRecord}
 use Rattle.model.specs.Frames.{QueueCommand, createResource, queueResource, destroyAll, clear, getParameters, setParameters, LiveCommand, word, streamId, codedFormat, resourceId, timestampSent}
 use Rattle.model.specs.Replies.{Reply, Request}
 use Rattle.model.specs.Commands.{Surroundings, onCreate, onDestroy, onDrain, onCreateResource, onQueue, onDestroyAll, onClear, onGet, onSet, onQueueOf, onLive, onCommand, drainLeft, cleared, goodExtent, badExtent}
-use Rattle.model.specs.Steps.{Act, command, finish, drained, streamOf, serve, Outcome, around}
+use Rattle.model.specs.Steps.{Act, command, finish, drained, streamOf, serve, DeviceReply, around}
 use Rattle.model.specs.WellFormed.{u8, u32, u64, goodState, goodSlot, distinctSlots, goodSlots, goodQueue, goodDrain, goodStream, goodPlace, distinctPlaces, goodPlaces, wellFormed, goodAct}
 use Rattle.model.specs.Promises.{StaysWellFormed}
 use Rattle.field.proofs.Laws.{field-below}
 use Rattle.model.proofs.Slots.{Distinct, distinct-set, distinct-stop, distinct-free, distinct-add}
 use Rattle.model.proofs.Walk.{walk}
-use Rattle.model.proofs.Cases.{live-cases, command-cases, finish-cases, drained-cases, step-cases}
+use Rattle.model.proofs.Origins.{live-cases, command-cases, finish-cases, drained-cases, step-cases}
 use Rattle.model.proofs.Places.{alone, alone-head, alone-tail, replace-other, replace-absent, install-other, all-record, all-put}
 
 -- Numbers in frames
@@ -65,10 +65,10 @@ slots-are s h =
 are-slots : (s : List Slot) → GoodSlots s → goodSlots s ≡ true
 are-slots s g = both (eq-eqb (length s) queueSlots (g .size)) (both (g .each) (of-distinct s (g .apart)))
 
-length-set : (r : ℕ) (p : State) (s : List Slot) → length (setState r p s) ≡ length s
-length-set r p [] = refl
-length-set r p (free ∷ s) = ap suc (length-set r p s)
-length-set r p (resource m q ∷ s) = ap suc (length-set r p s)
+length-setState : (r : ℕ) (p : State) (s : List Slot) → length (setState r p s) ≡ length s
+length-setState r p [] = refl
+length-setState r p (free ∷ s) = ap suc (length-setState r p s)
+length-setState r p (resource m q ∷ s) = ap suc (length-setState r p s)
 
 each-set : (r : ℕ) (p : State) (s : List Slot) → goodState p ≡ true → allOf goodSlot s ≡ true → allOf goodSlot (setState r p s) ≡ true
 each-set r p [] g h = refl
@@ -79,7 +79,7 @@ each-set r p (resource m q ∷ s) g h =
     (each-set r p s g (and-right (u32 m && goodState q) _ h))
 
 slots-set : (r : ℕ) (p : State) (s : List Slot) → goodState p ≡ true → GoodSlots s → GoodSlots (setState r p s)
-slots-set r p s h g = record { size = length-set r p s ∙ g .size; each = each-set r p s h (g .each); apart = distinct-set r p s (g .apart) }
+slots-set r p s h g = record { size = length-setState r p s ∙ g .size; each = each-set r p s h (g .each); apart = distinct-set r p s (g .apart) }
 
 length-stop : (s : List Slot) → length (stopAll s) ≡ length s
 length-stop [] = refl
@@ -211,28 +211,28 @@ abbrev GoodNext : Reply → Type 0
 GoodNext v = GoodSelf (v .next)
 
 module _ (c : Request) (b : Stream) (self : c .self ≡ some b) (g : GoodStream b) (t : u32 (c .ticket) ≡ true) (m : allOf u8 (c .frame) ≡ true) where
-  same : GoodSelf (c .self)
-  same = subst GoodSelf (sym self) g
+  same-queue : GoodSelf (c .self)
+  same-queue = subst GoodSelf (sym self) g
 
-  queue-good : (k : QueueCommand) (q : QueueType) → GoodNext (onQueueOf k c b q)
+  changed-good : (k : QueueCommand) (q : QueueType) → GoodNext (onQueueOf k c b q)
   unfolding onCreateResource onQueue onDestroyAll onClear onGet onSet
-  queue-good createResource q =
-      walk GoodNext c _ (λ e. same) (λ h₁ h₂ h₃ h₄ h₅ h₆ h₇.
+  changed-good createResource q =
+      walk GoodNext c _ (λ e. same-queue) (λ h₁ h₂ h₃ h₄ h₅ h₆ h₇.
       good-slots q _ b g (slots-add (resourceId (c .frame)) (queueOf q b .slots) (word-u32 (c .frame) 12 m) h₆ ((good-queue-of q b g) .slots)))
-  queue-good queueResource q =
-      walk GoodNext c _ (λ e. same) (λ h₁ h₂ h₃ h₄ h₅.
+  changed-good queueResource q =
+      walk GoodNext c _ (λ e. same-queue) (λ h₁ h₂ h₃ h₄ h₅.
       good-slots q _ b g (slots-set (resourceId (c .frame)) (queued (c .ticket) (timestampSent (c .frame))) (queueOf q b .slots)
       (both t (field-u64 (c .frame) 16 m)) ((good-queue-of q b g) .slots)))
-  queue-good destroyAll q = walk GoodNext c _ (λ e. same) (λ h. good-slots q _ b g (slots-free (queueOf q b .slots) ((good-queue-of q b g) .slots)))
-  queue-good clear q = good-clear q b g
-  queue-good getParameters q = same
-  queue-good setParameters q =
-      walk GoodNext c _ (λ e. same) (λ h₁ h₂ h₃ h₄.
+  changed-good destroyAll q = walk GoodNext c _ (λ e. same-queue) (λ h. good-slots q _ b g (slots-free (queueOf q b .slots) ((good-queue-of q b g) .slots)))
+  changed-good clear q = good-clear q b g
+  changed-good getParameters q = same-queue
+  changed-good setParameters q =
+      walk GoodNext c _ (λ e. same-queue) (λ h₁ h₂ h₃ h₄.
       good-with q _ b g (record { slots = (good-queue-of q b g) .slots; width = h₂; height = h₃; rate = word-u32 (c .frame) 48 m }))
 
   live-good : (k : LiveCommand) → GoodNext (onLive k c b)
   unfolding onDestroy onDrain
-  live-good = live-cases GoodNext c b (λ e. same) tt (walk GoodNext c _ (λ e. same) (λ h. good-drain (some (c .ticket)) b g t)) queue-good
+  live-good = live-cases GoodNext c b (λ e. same-queue) tt (walk GoodNext c _ (λ e. same-queue) (λ h. good-drain (some (c .ticket)) b g t)) changed-good
 
 command-good : (around : Surroundings) (c : Request) → GoodSelf (c .self) → u32 (c .ticket) ≡ true → allOf u8 (c .frame) ≡ true → GoodNext (onCommand around c)
 unfolding onCreate
@@ -298,8 +298,8 @@ module _ (n : ℕ) (r : Option Stream) where
   length-install (vacant ∷ ps) = refl
   length-install (occupied m b ∷ ps) = ap suc (length-install ps)
 
-  length-put : (ps : List Place) → length (put n r ps) ≡ length ps
-  unfolding put
+  length-put : (ps : List Place) → length (putRecord n r ps) ≡ length ps
+  unfolding putRecord
   length-put ps = cond-elim (λ (x : List Place). length x ≡ length ps) (isNone (recordOf n ps)) (λ _. length-install ps) (λ _. length-replace ps)
 
 apart-replace : (n : ℕ) (r : Option Stream) (ps : List Place) → distinctPlaces ps ≡ true → distinctPlaces (replace n r ps) ≡ true
@@ -324,11 +324,11 @@ apart-install n r (occupied m b ∷ ps) q h =
     decide (eqb m n) (λ e. never (sym (simp e at q)))
     (λ e. alone m b (install n r ps) (ap isNone (install-other m n r ps (eqb-sym m n e)) ∙ alone-head m b ps h) (apart-install n r ps (simp e at q) (alone-tail m b ps h)))
 
-apart-put : (n : ℕ) (r : Option Stream) (ps : List Place) → distinctPlaces ps ≡ true → distinctPlaces (put n r ps) ≡ true
-unfolding put
+apart-put : (n : ℕ) (r : Option Stream) (ps : List Place) → distinctPlaces ps ≡ true → distinctPlaces (putRecord n r ps) ≡ true
+unfolding putRecord
 apart-put n r ps h = cond-elim (λ x. distinctPlaces x ≡ true) (isNone (recordOf n ps)) (λ e. apart-install n r ps e h) (λ _. apart-replace n r ps h)
 
-put-good : (n : ℕ) (r : Option Stream) (ps : List Place) → u32 n ≡ true → GoodSelf r → GoodPlaces ps → GoodPlaces (put n r ps)
+put-good : (n : ℕ) (r : Option Stream) (ps : List Place) → u32 n ≡ true → GoodSelf r → GoodPlaces ps → GoodPlaces (putRecord n r ps)
 put-good n r ps u g h =
     record { size = length-put n r ps ∙ h .size; each = all-put goodPlace n r (is-self n r u g) ps (h .each); apart = apart-put n r ps (h .apart) }
 
@@ -348,6 +348,6 @@ well-fresh = refl
 pub stays-well-formed : StaysWellFormed
 unfolding wellFormed
 stays-well-formed d s h m =
-    step-cases (λ (o : Outcome). goodPlaces (o .device .places) ≡ true) d s (λ k. h)
+    step-cases (λ (o : DeviceReply). goodPlaces (o .device .places) ≡ true) d s (λ k. h)
     (λ n e. are-places _ (put-good n _ (d .places) (stream-u32 (s .act) n m e)
     (serve-good (around d n) n (recordOf n (d .places)) (s .act) (well-record n d h) m) (places-are (d .places) h)))

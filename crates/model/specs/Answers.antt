@@ -35,26 +35,26 @@ pub record Answer : Type 0 where
   pub response : Response
 
 -- 32-bit words, one after the other
-abbrev pub words : List ℕ → List ℕ
-words [] = []
-words (v ∷ vs) = littleEndian 4 v ++ words vs
+abbrev pub wordBytes : List ℕ → List ℕ
+wordBytes [] = []
+wordBytes (v ∷ vs) = littleEndian 4 v ++ wordBytes vs
 
 -- the bytes of a response to a stream: the type of the answer, the stream number, the rest
 unfoldable pub responseBytes : ℕ → Response → List ℕ
-responseBytes n success = words (0x0200 ∷ n ∷ [])
-responseBytes n (bufferDone q ts flags) = words (0x0200 ∷ n ∷ []) ++ (littleEndian 8 ts ++ words (flags ∷ 0 ∷ []))
-responseBytes n drainDone = words (0x0200 ∷ n ∷ [])
-responseBytes n (parameters ws) = words (0x0203 ∷ n ∷ ws)
-responseBytes n (failure e) = words (code e ∷ n ∷ [])
+responseBytes n success = wordBytes (0x0200 ∷ n ∷ [])
+responseBytes n (bufferDone q ts flags) = wordBytes (0x0200 ∷ n ∷ []) ++ (littleEndian 8 ts ++ wordBytes (flags ∷ 0 ∷ []))
+responseBytes n drainDone = wordBytes (0x0200 ∷ n ∷ [])
+responseBytes n (parameters ws) = wordBytes (0x0203 ∷ n ∷ ws)
+responseBytes n (failure e) = wordBytes (code e ∷ n ∷ [])
 
 -- the bytes of an answer's response
-abbrev pub response : Answer → List ℕ
-response a = responseBytes (a .stream) (a .response)
+abbrev pub responseOf : Answer → List ℕ
+responseOf a = responseBytes (a .stream) (a .response)
 
 -- answers as they are written: ticket, byte count, response
 abbrev pub bytesOf : List Answer → List ℕ
 bytesOf [] = []
-bytesOf (a ∷ l) = littleEndian 4 (a .ticket) ++ (littleEndian 4 (length (response a)) ++ (response a ++ bytesOf l))
+bytesOf (a ∷ l) = littleEndian 4 (a .ticket) ++ (littleEndian 4 (length (responseOf a)) ++ (responseOf a ++ bytesOf l))
 
 -- an answer as it stands in the room
 pub record Written : Type 0 where

@@ -9,47 +9,47 @@ use lib.Dec.{eqb}
 use Rattle.laws.specs.Lists.{allOf, same}
 use Rattle.model.specs.Numbers.{answerRoom}
 use Rattle.model.specs.Device.{output, created, Slot, free, resource, Device, fresh, newQueue, newStream, withQueue, withSlots, recordOf, putBack}
-use Rattle.model.specs.Answers.{words, bytesOf}
-use Rattle.model.specs.Steps.{Act, command, finish, drained, Step, Outcome, step, Entry, entryOf, entriesOf, final, isError, accepted, belongs, outOfMemoryAt}
-use Rattle.model.specs.Ledger.{fed, toBuffer, toDrain, Ledger, ledgerOf, expectedTickets, owed, owedIn}
+use Rattle.model.specs.Answers.{wordBytes, bytesOf}
+use Rattle.model.specs.Steps.{Act, command, finish, drained, Step, DeviceReply, stepOn, Event, eventOf, eventsOf, final, isError, accepted, belongs, outOfMemoryAt}
+use Rattle.model.specs.Ledger.{noted, toBuffer, toDrain, Ledger, ledgerOf, expectedTickets, outstanding, outstandingIn}
 use Rattle.model.specs.WellFormed.{wellFormed, goodAct}
 
 infix 80 _refused_ _gives_
 -- a step, its refusal number or 0, and the bytes that it writes, in words
-pub record Line : Type 0 where
+pub record Expected : Type 0 where
   pub act : Act
   pub refusal : ℕ
   pub answers : List ℕ
 
 -- a step that is refused, and one that is not
-abbrev pub _refused_ : Act → ℕ → Line
+abbrev pub _refused_ : Act → ℕ → Expected
 a refused k = record { act = a; refusal = k; answers = [] }
 
-abbrev pub _gives_ : Act → List ℕ → Line
+abbrev pub _gives_ : Act → List ℕ → Expected
 a gives ws = record { act = a; refusal = 0; answers = ws }
 
--- what went before on a fresh device, and the steps whose outcome is given: the last ones show what the first ones left
+-- what went before on a fresh device, and the steps with what they give: the last ones show what the first ones left
 pub record Case : Type 0 where
-  pub before : List Act
-  pub lines : List Line
+  pub history : List Act
+  pub expected : List Expected
 
 -- the same, by its parts
-abbrev pub case : List Act → List Line → Case
-case b ls = record { before = b; lines = ls }
+abbrev pub case : List Act → List Expected → Case
+case b ls = record { history = b; expected = ls }
 
 -- a step with the room that it must be lent
 abbrev pub roomy : Act → Step
 roomy a = record { act = a; room = replicate answerRoom 0 }
 
--- an outcome has that refusal and those bytes
-abbrev pub agrees : Line → Outcome → Bool
-agrees l o = eqb (o .refusal) (l .refusal) && same (bytesOf (o .answers)) (words (l .answers))
+-- a step gave that refusal and those bytes
+abbrev pub agrees : Expected → DeviceReply → Bool
+agrees l o = eqb (o .refusal) (l .refusal) && same (bytesOf (o .answers)) (wordBytes (l .answers))
 
 -- each step on the device that the last one left
-abbrev pub allAgree : Device → List Line → Bool
+abbrev pub allAgree : Device → List Expected → Bool
 allAgree d [] = true
 allAgree d (l ∷ ls) =
-    let o : Outcome = step d (roomy (l .act)) in
+    let o : DeviceReply = stepOn d (roomy (l .act)) in
     agrees l o && allAgree (o .device) ls
 
 -- the device after these steps on a fresh one
@@ -58,58 +58,58 @@ deviceAfter l = final fresh (map roomy l)
 
 -- the definitions give those outcomes
 abbrev pub passes : Case → Bool
-passes c = allAgree (deviceAfter (c .before)) (c .lines)
+passes c = allAgree (deviceAfter (c .history)) (c .expected)
 
 -- a command of 32-bit words
 abbrev pub ask : ℕ → List ℕ → Act
-ask t ws = command t (words ws)
+ask t ws = command t (wordBytes ws)
 
 -- The frames of the cases, all to stream 7
 
 -- its creation with format 0x1000 and an empty tag, and that of another number
-abbrev pub creatingStream : ℕ → Act
-creatingStream n = ask 1 (0x0101 ∷ n ∷ 0 ∷ 0 ∷ 0x1000 ∷ 0 ∷ replicate 16 0)
+abbrev pub askCreateOf : ℕ → Act
+askCreateOf n = ask 1 (0x0101 ∷ n ∷ 0 ∷ 0 ∷ 0x1000 ∷ 0 ∷ replicate 16 0)
 
-abbrev pub creating : Act
-creating = creatingStream 7
+abbrev pub askCreate : Act
+askCreate = askCreateOf 7
 
 -- a resource with one entry of one byte
-abbrev pub makingResource : ℕ → ℕ → Act
-makingResource q r = ask 2 (0x0104 ∷ 7 ∷ q ∷ r ∷ 1 ∷ 1 ∷ (replicate 8 0 ++ 1 ∷ (replicate 7 0 ++ 0 ∷ 0 ∷ 1 ∷ 0 ∷ [])))
+abbrev pub askResource : ℕ → ℕ → Act
+askResource q r = ask 2 (0x0104 ∷ 7 ∷ q ∷ r ∷ 1 ∷ 1 ∷ (replicate 8 0 ++ 1 ∷ (replicate 7 0 ++ 0 ∷ 0 ∷ 1 ∷ 0 ∷ [])))
 
 -- a queueing under a ticket, with a timestamp and a size count
-abbrev pub queueing : ℕ → ℕ → ℕ → ℕ → ℕ → Act
-queueing t q r ts sizes = ask t (0x0105 ∷ 7 ∷ q ∷ r ∷ ts ∷ 0 ∷ sizes ∷ replicate 9 0)
+abbrev pub askQueue : ℕ → ℕ → ℕ → ℕ → ℕ → Act
+askQueue t q r ts sizes = ask t (0x0105 ∷ 7 ∷ q ∷ r ∷ ts ∷ 0 ∷ sizes ∷ replicate 9 0)
 
 -- a set of the input queue's size
-abbrev pub setting : ℕ → ℕ → Act
-setting width height = ask 5 (0x0109 ∷ 7 ∷ 0x100 ∷ 0x1000 ∷ width ∷ height ∷ replicate 24 0)
+abbrev pub askSet : ℕ → ℕ → Act
+askSet width height = ask 5 (0x0109 ∷ 7 ∷ 0x100 ∷ 0x1000 ∷ width ∷ height ∷ replicate 24 0)
 
 -- a get of the input queue's parameters
-abbrev pub getting : ℕ → Act
-getting t = ask t (0x0108 ∷ 7 ∷ 0x100 ∷ 0 ∷ [])
+abbrev pub askGet : ℕ → Act
+askGet t = ask t (0x0108 ∷ 7 ∷ 0x100 ∷ 0 ∷ [])
 
 -- a drain
-abbrev pub draining : ℕ → Act
-draining t = ask t (0x0103 ∷ 7 ∷ [])
+abbrev pub askDrain : ℕ → Act
+askDrain t = ask t (0x0103 ∷ 7 ∷ [])
 
 -- a clear of a queue
-abbrev pub clearing : ℕ → ℕ → Act
-clearing t q = ask t (0x0107 ∷ 7 ∷ q ∷ 0 ∷ [])
+abbrev pub askClear : ℕ → ℕ → Act
+askClear t q = ask t (0x0107 ∷ 7 ∷ q ∷ 0 ∷ [])
 
 -- resource 9 on both queues
-abbrev pub both : List Act
-both = creating ∷ makingResource 0x100 9 ∷ makingResource 0x101 9 ∷ []
+abbrev pub bothQueues : List Act
+bothQueues = askCreate ∷ askResource 0x100 9 ∷ askResource 0x101 9 ∷ []
 
--- the same, and a drain owed under ticket 4
+-- the same, and a drain pending under ticket 4
 abbrev pub bothDraining : List Act
-bothDraining = both ++ draining 4 ∷ []
+bothDraining = bothQueues ++ askDrain 4 ∷ []
 
 -- The answers
 
 -- plain success, and a drain's
-abbrev pub succeeds : ℕ → List ℕ
-succeeds t = t ∷ 8 ∷ 0x0200 ∷ 7 ∷ []
+abbrev pub successTo : ℕ → List ℕ
+successTo t = t ∷ 8 ∷ 0x0200 ∷ 7 ∷ []
 
 -- an error
 abbrev pub failsWith : ℕ → ℕ → List ℕ
@@ -120,29 +120,29 @@ abbrev pub bufferEnds : ℕ → ℕ → ℕ → List ℕ
 bufferEnds t ts flags = t ∷ 24 ∷ 0x0200 ∷ 7 ∷ ts ∷ 0 ∷ flags ∷ 0 ∷ []
 
 -- the input queue's parameters with that size and rate 0
-abbrev pub shows : ℕ → ℕ → ℕ → List ℕ
-shows t width height =
+abbrev pub showsSize : ℕ → ℕ → ℕ → List ℕ
+showsSize t width height =
     t ∷ 120 ∷ 0x0203 ∷ 7 ∷ 0x100 ∷ 0x1000 ∷ width ∷ height ∷ 1 ∷ 16 ∷ 0 ∷ 0 ∷ width ∷ height ∷ 0 ∷ 1 ∷ 262144 ∷ 0 ∷ replicate 14 0
 
 -- A command of 7 bytes and of 8; size count 8 and 9; 4,096 and 4,098 wide; clear of an empty queue; one resource number on both queues,
 -- queued apart, stopped apart and finished apart; while draining, input refused and output taken
 abbrev pub tenCases : List Case
 tenCases =
-    case [] (command 5 (take 7 (words (0x0103 ∷ 7 ∷ []))) refused 4 ∷ [])
-    ∷ case [] (draining 5 gives failsWith 5 0x0302 ∷ [])
-    ∷ case both (queueing 5 0x100 9 77 8 gives [] ∷ clearing 6 0x100 gives (bufferEnds 5 77 1 ++ succeeds 6) ∷ [])
-    ∷ case both (queueing 5 0x100 9 77 9 gives failsWith 5 0x0304 ∷ clearing 6 0x100 gives succeeds 6 ∷ [])
-    ∷ case (creating ∷ []) (setting 4096 480 gives succeeds 5 ∷ getting 6 gives shows 6 4096 480 ∷ [])
-    ∷ case (creating ∷ []) (setting 4098 480 gives failsWith 5 0x0304 ∷ getting 6 gives shows 6 640 480 ∷ [])
-    ∷ case (creating ∷ []) (clearing 5 0x100 gives succeeds 5 ∷ [])
-    ∷ case both
-    (queueing 5 0x100 9 77 1 gives []
-    ∷ queueing 6 0x101 9 78 1 gives []
-    ∷ clearing 8 0x100 gives (bufferEnds 5 77 1 ++ succeeds 8)
+    case [] (command 5 (take 7 (wordBytes (0x0103 ∷ 7 ∷ []))) refused 4 ∷ [])
+    ∷ case [] (askDrain 5 gives failsWith 5 0x0302 ∷ [])
+    ∷ case bothQueues (askQueue 5 0x100 9 77 8 gives [] ∷ askClear 6 0x100 gives (bufferEnds 5 77 1 ++ successTo 6) ∷ [])
+    ∷ case bothQueues (askQueue 5 0x100 9 77 9 gives failsWith 5 0x0304 ∷ askClear 6 0x100 gives successTo 6 ∷ [])
+    ∷ case (askCreate ∷ []) (askSet 4096 480 gives successTo 5 ∷ askGet 6 gives showsSize 6 4096 480 ∷ [])
+    ∷ case (askCreate ∷ []) (askSet 4098 480 gives failsWith 5 0x0304 ∷ askGet 6 gives showsSize 6 640 480 ∷ [])
+    ∷ case (askCreate ∷ []) (askClear 5 0x100 gives successTo 5 ∷ [])
+    ∷ case bothQueues
+    (askQueue 5 0x100 9 77 1 gives []
+    ∷ askQueue 6 0x101 9 78 1 gives []
+    ∷ askClear 8 0x100 gives (bufferEnds 5 77 1 ++ successTo 8)
     ∷ finish 7 0x101 9 0 88 gives bufferEnds 6 88 0
     ∷ [])
-    ∷ case bothDraining (queueing 5 0x100 9 77 1 gives failsWith 5 0x0300 ∷ clearing 6 0x100 gives (succeeds 4 ++ succeeds 6) ∷ [])
-    ∷ case bothDraining (queueing 5 0x101 9 77 1 gives [] ∷ clearing 6 0x101 gives (bufferEnds 5 77 1 ++ succeeds 6) ∷ [])
+    ∷ case bothDraining (askQueue 5 0x100 9 77 1 gives failsWith 5 0x0300 ∷ askClear 6 0x100 gives (successTo 4 ++ successTo 6) ∷ [])
+    ∷ case bothDraining (askQueue 5 0x101 9 77 1 gives [] ∷ askClear 6 0x101 gives (bufferEnds 5 77 1 ++ successTo 6) ∷ [])
     ∷ []
 
 -- all of them pass
@@ -153,20 +153,20 @@ TenCases = allOf passes tenCases ≡ true
 -- are; and no words of a table stand for a queue of fifteen slots or for a number above 32 bits
 
 -- a step after others, with what the host gets back
-abbrev pub entryAfter : List Act → Act → Entry
-entryAfter b a = entryOf (roomy a) (step (deviceAfter b) (roomy a))
+abbrev pub eventAfter : List Act → Act → Event
+eventAfter b a = eventOf (roomy a) (stepOn (deviceAfter b) (roomy a))
 
 -- the ledger after these steps
 abbrev pub ledgerLeft : List Act → Ledger
-ledgerLeft l = ledgerOf (entriesOf fresh (map roomy l))
+ledgerLeft l = ledgerOf (eventsOf fresh (map roomy l))
 
--- resource 9 of both queues Queued and a drain owed, by the steps 3, 4 and 6; step 5, a second queueing, gets an error
+-- resource 9 of both queues Queued and a drain pending, by the steps 3, 4 and 6; step 5, a second queueing, gets an error
 abbrev pub allPending : List Act
-allPending = both ++ queueing 30 0x101 9 78 1 ∷ queueing 20 0x100 9 77 1 ∷ queueing 21 0x100 9 79 1 ∷ draining 40 ∷ []
+allPending = bothQueues ++ askQueue 30 0x101 9 78 1 ∷ askQueue 20 0x100 9 77 1 ∷ askQueue 21 0x100 9 79 1 ∷ askDrain 40 ∷ []
 
 -- the same, and step 7 clears the output
 abbrev pub outputCleared : List Act
-outputCleared = allPending ++ clearing 8 0x101 ∷ []
+outputCleared = allPending ++ askClear 8 0x101 ∷ []
 
 -- a device with one stream, whose outputs are these
 abbrev pub withOutputs : List Slot → Device
@@ -175,29 +175,29 @@ withOutputs s = putBack 7 (some (withQueue output (withSlots s newQueue) (newStr
 pub record MoreCases : Type 0 where
   -- a command of an unknown type, and a report that is refused, belong to the number in them; a command of 7 bytes belongs to none
   pub owners : map (belongs 7) (
-      entryAfter [] (ask 5 (0x0100 ∷ 7 ∷ []))
-      ∷ entryAfter [] (drained 7)
-      ∷ entryAfter [] (command 5 (take 7 (words (0x0103 ∷ 7 ∷ []))))
+      eventAfter [] (ask 5 (0x0100 ∷ 7 ∷ []))
+      ∷ eventAfter [] (drained 7)
+      ∷ eventAfter [] (command 5 (take 7 (wordBytes (0x0103 ∷ 7 ∷ []))))
       ∷ [])
       ≡ true ∷ true ∷ false ∷ []
   -- a finish with the flag ERR is accepted, an unsupported control is not
-  pub accepts : map accepted (entryAfter allPending (finish 7 0x100 9 1 0) ∷ entryAfter allPending (ask 5 (0x010A ∷ 7 ∷ 0 ∷ 0 ∷ [])) ∷ []) ≡ true ∷ false ∷ []
+  pub accepts : map accepted (eventAfter allPending (finish 7 0x100 9 1 0) ∷ eventAfter allPending (ask 5 (0x010A ∷ 7 ∷ 0 ∷ 0 ∷ [])) ∷ []) ≡ true ∷ false ∷ []
   -- error answers end at 0x0305
-  pub last-error : isError (record { ticket = 5; response = words (0x0306 ∷ 7 ∷ []) }) ≡ false
+  pub last-error : isError (record { ticket = 5; response = wordBytes (0x0306 ∷ 7 ∷ []) }) ≡ false
   -- 0x0301 to a ninth creation is 'out of memory', to a seventeenth resource it is not
   pub out-of-memory : map outOfMemoryAt (
-      entryAfter (map creatingStream (0 ∷ 1 ∷ 2 ∷ 3 ∷ 4 ∷ 5 ∷ 6 ∷ 8 ∷ [])) creating
-      ∷ entryAfter (creating ∷ map (makingResource 0x100) (0 ∷ 1 ∷ 2 ∷ 3 ∷ 4 ∷ 5 ∷ 6 ∷ 7 ∷ 8 ∷ 9 ∷ 10 ∷ 11 ∷ 12 ∷ 13 ∷ 14 ∷ 15 ∷ [])) (makingResource 0x100 16)
+      eventAfter (map askCreateOf (0 ∷ 1 ∷ 2 ∷ 3 ∷ 4 ∷ 5 ∷ 6 ∷ 8 ∷ [])) askCreate
+      ∷ eventAfter (askCreate ∷ map (askResource 0x100) (0 ∷ 1 ∷ 2 ∷ 3 ∷ 4 ∷ 5 ∷ 6 ∷ 7 ∷ 8 ∷ 9 ∷ 10 ∷ 11 ∷ 12 ∷ 13 ∷ 14 ∷ 15 ∷ [])) (askResource 0x100 16)
       ∷ [])
       ≡ true ∷ false ∷ []
-  -- an accepted queueing or drain is pending under its step number, another is not, and an output clear pays no drain
+  -- an accepted queueing or drain is pending under its step number, another is not, and an output clear completes no drain
   pub left-pending : ledgerLeft outputCleared
-      ≡ record { step = 6; ticket = 40; stream = 7; awaited = toDrain } ∷ record { step = 4; ticket = 20; stream = 7; awaited = toBuffer 0x100 9 77 } ∷ []
-  -- the record owes the same
-  pub record-owes : owedIn (recordOf 7 (deviceAfter outputCleared .places)) ≡ owed 20 (toBuffer 0x100 9 77) ∷ owed 40 toDrain ∷ []
-  -- a destruction pays the input, the output, the drain, and then answers itself
-  pub paid-in-order : expectedTickets (fed 7 (ask 5 (0x0102 ∷ 7 ∷ [])) true true) (ledgerLeft allPending) ≡ 20 ∷ 30 ∷ 40 ∷ 5 ∷ []
+      ≡ record { stepNumber = 6; ticket = 40; stream = 7; awaited = toDrain } ∷ record { stepNumber = 4; ticket = 20; stream = 7; awaited = toBuffer 0x100 9 77 } ∷ []
+  -- by the record the same is pending
+  pub record-pending : outstandingIn (recordOf 7 (deviceAfter outputCleared .places)) ≡ outstanding 20 (toBuffer 0x100 9 77) ∷ outstanding 40 toDrain ∷ []
+  -- a destruction completes the input, the output, the drain, and then answers itself
+  pub completed-in-order : expectedTickets (noted 7 (ask 5 (0x0102 ∷ 7 ∷ [])) true true) (ledgerLeft allPending) ≡ 20 ∷ 30 ∷ 40 ∷ 5 ∷ []
   -- a queue has sixteen slots, and a resource number fits its word
   pub record-rules : map (λ (s : List Slot). wellFormed (withOutputs s)) (replicate 15 free ∷ (resource 0x100000000 created ∷ replicate 15 free) ∷ []) ≡ false ∷ false ∷ []
   -- the lists of condition 3 have finishes of any numbers in the host's types
-  pub every-step : goodAct (finish 0xFFFFFFFF 0xFFFFFFFF 0xFFFFFFFF 0xFFFFFFFF 0xFFFFFFFFFFFFFFFF) ≡ true
+  pub any-finish : goodAct (finish 0xFFFFFFFF 0xFFFFFFFF 0xFFFFFFFF 0xFFFFFFFF 0xFFFFFFFFFFFFFFFF) ≡ true

@@ -12,9 +12,9 @@ use Rattle.laws.specs.Lists.{isEmpty, isNone, toList, total}
 use Rattle.tag.specs.Tag.{goodTag, tagIn}
 use Rattle.model.specs.Numbers.{queueSlots, maxPlanes, firstCoded, lastCoded, nv12, err}
 use Rattle.model.specs.Device.{QueueType, input, output, queued, Queue, Stream, newStream, queueOf, withQueue, withDrain, withSlots, Buffer, queuedIn, buffers, bufferOf, present, noSlot, addResource, setState, stopAll, freeAll}
-use Rattle.model.specs.Frames.{QueueCommand, createResource, queueResource, destroyAll, clear, getParameters, setParameters, LiveCommand, destroy, drain, control, toQueue, Command, create, live, CommandLine, commandOf, wrongLength, queueNumber, queueNamed, commandType, inMemType, outMemType, codedFormat, queueType, resourceId, planesLayout, numPlanes, numEntries, entriesStart, entries, entryBytes, entryAddr, entryLength, timestampSent, numDataSizes, formatSent, frameWidth, frameHeight, frameRate}
+use Rattle.model.specs.Frames.{QueueCommand, createResource, queueResource, destroyAll, clear, getParameters, setParameters, LiveCommand, destroy, drain, control, toQueue, Command, create, live, CommandRule, commandOf, wrongLength, queueNumber, queueNamed, commandType, inMemType, outMemType, codedFormat, queueType, resourceId, planesLayout, numPlanes, numEntries, entriesStart, entries, entryBytes, entryAddr, entryLength, timestampSent, numDataSizes, formatSent, frameWidth, frameHeight, frameRate}
 use Rattle.model.specs.Answers.{invalidOperation, outOfMemory, invalidStream, invalidResource, invalidParameter, unsupportedControl, success, bufferDone, drainDone, parameters, Answer}
-use Rattle.model.specs.Replies.{Reply, reply, Request, own, fail, Tests, accept, _⇒_then_, first}
+use Rattle.model.specs.Replies.{Reply, reply, Request, own, fail, Tests, accept, _⇒_then_, byTests}
 
 -- what a creation sees besides its own stream: whether every stream place holds something
 pub record Surroundings : Type 0 where
@@ -32,7 +32,7 @@ succeed c next = accept (reply (own c success ∷ []) next)
 unfoldable pub onCreate : Surroundings → Request → Reply
 onCreate around c =
     let f = c .frame in
-    first c
+    byTests c
     (not (eqb (inMemType f) 0) ⇒ invalidParameter then
     not (eqb (outMemType f) 0) ⇒ invalidParameter then
     not (within (codedFormat f) firstCoded lastCoded) ⇒ invalidParameter then
@@ -44,11 +44,11 @@ onCreate around c =
 abbrev pub stoppedAnswers : ℕ → QueueType → List Buffer → List Answer
 stoppedAnswers n q = map (λ (i : Buffer). record { ticket = i .ticket; stream = n; response = bufferDone q (i .timestamp) err })
 
--- the answer to an owed drain, if one is owed
+-- the answer to a pending drain, if there is one
 abbrev pub drainAnswers : ℕ → Option ℕ → List Answer
 drainAnswers n d = map (λ (t : ℕ). record { ticket = t; stream = n; response = drainDone }) (toList d)
 
--- 0x0102 destroy: Queued inputs, outputs, an owed drain, itself; the stream is freed
+-- 0x0102 destroy: Queued inputs, outputs, a pending drain, itself; the stream is freed
 unfoldable pub onDestroy : Request → Stream → Reply
 onDestroy c b =
     let n = c .stream in
@@ -59,7 +59,7 @@ onDestroy c b =
 -- 0x0103 drain
 unfoldable pub onDrain : Request → Stream → Reply
 onDrain c b =
-    first c
+    byTests c
     (not (isNone (b .draining)) ⇒ invalidOperation then
     accept (reply [] (some (withDrain (some (c .ticket)) b))))
 
@@ -75,7 +75,7 @@ onCreateResource c b q =
     let r = resourceId f in
     let s = queueOf q b .slots in
     let sum = total (take (numPlanes f) (numEntries f)) in
-    first c
+    byTests c
     (not (within (planesLayout f) 1 2) ⇒ invalidParameter then
     not (within (numPlanes f) 1 maxPlanes) ⇒ invalidParameter then
     not (within sum 1 256) ⇒ invalidParameter then
@@ -96,7 +96,7 @@ onQueue c b q =
     let f = c .frame in
     let r = resourceId f in
     let s = queueOf q b .slots in
-    first c
+    byTests c
     (ltb maxPlanes (numDataSizes f) ⇒ invalidParameter then
     isInput q && not (isNone (b .draining)) ⇒ invalidOperation then
     queueOf q b .clearing ⇒ invalidOperation then
@@ -108,16 +108,16 @@ onQueue c b q =
 unfoldable pub onDestroyAll : Request → Stream → QueueType → Reply
 onDestroyAll c b q =
     let s = queueOf q b .slots in
-    first c
+    byTests c
     (not (isEmpty (queuedIn s)) ⇒ invalidOperation then
     succeed c (some (withQueue q (withSlots (freeAll s) (queueOf q b)) b)))
 
--- the drain that a clear ends: the input queue's clear ends an owed drain, the output queue's none
+-- the drain that a clear ends: the input queue's clear ends a pending drain, the output queue's none
 abbrev pub drainEnded : QueueType → Stream → Option ℕ
 drainEnded input b = b .draining
 drainEnded output b = none
 
--- the drain that is owed after it
+-- the drain that is pending after it
 abbrev pub drainLeft : QueueType → Stream → Option ℕ
 drainLeft input b = none
 drainLeft output b = b .draining
@@ -126,7 +126,7 @@ drainLeft output b = b .draining
 abbrev pub cleared : Queue → Queue
 cleared q = record { width = q .width; height = q .height; rate = q .rate; clearing = false; slots = stopAll (q .slots) }
 
--- 0x0107 clear: the queue's Queued buffers, for input an owed drain, itself
+-- 0x0107 clear: the queue's Queued buffers, for input a pending drain, itself
 unfoldable pub onClear : Request → Stream → QueueType → Reply
 onClear c b q =
     let n = c .stream in
@@ -170,7 +170,7 @@ withParameters w h rate q = record { width = w; height = h; rate = rate; clearin
 unfoldable pub onSet : Request → Stream → QueueType → Reply
 onSet c b q =
     let f = c .frame in
-    first c
+    byTests c
     (not (eqb (formatSent f) (formatOf q b)) ⇒ invalidParameter then
     badExtent (frameWidth f) ⇒ invalidParameter then
     badExtent (frameHeight f) ⇒ invalidParameter then
@@ -207,11 +207,11 @@ onStream around c create (some b) = fail c invalidStream
 onStream around c (live k) none = fail c invalidStream
 onStream around c (live k) (some b) = onLive k c b
 
--- a type without a line is an invalid operation; a wrong length is an invalid parameter
-abbrev pub onLine : Surroundings → Request → Option CommandLine → Reply
-onLine around c none = fail c invalidOperation
-onLine around c (some l) = cond (wrongLength (l .rule) (length (c .frame))) (fail c invalidParameter) (onStream around c (l .command) (c .self))
+-- a type without a rule is an invalid operation; a wrong length is an invalid parameter
+abbrev pub onRule : Surroundings → Request → Option CommandRule → Reply
+onRule around c none = fail c invalidOperation
+onRule around c (some l) = cond (wrongLength (l .lengthRule) (length (c .frame))) (fail c invalidParameter) (onStream around c (l .command) (c .self))
 
 -- a command, by its type
 unfoldable pub onCommand : Surroundings → Request → Reply
-onCommand around c = onLine around c (commandOf (commandType (c .frame)))
+onCommand around c = onRule around c (commandOf (commandType (c .frame)))

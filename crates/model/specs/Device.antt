@@ -1,5 +1,5 @@
 -- What a table stands for: eight places for the records of live streams, and in each record two queues of sixteen slots for resources.
--- A place and an owed drain are document 01's own words; it calls a slot a place too.
+-- A place is document 01's own word; it calls a slot a place too, and a pending drain an owed one.
 use Prim.Native.Nat.{ℕ}
 use mathlib.Core.Bool.{Bool, true, false, cond}
 use mathlib.Core.Option.{Option, none, some}
@@ -33,7 +33,7 @@ pub record Queue : Type 0 where
   pub clearing : Bool
   pub slots : List Slot
 
--- the record of a live stream: coded format, the ticket of an owed drain, the two queues. Its number stands in its place.
+-- the record of a live stream: coded format, the ticket of a pending drain, the two queues. Its number stands in its place.
 pub record Stream : Type 0 where
   pub format : ℕ
   pub draining : Option ℕ
@@ -73,7 +73,7 @@ abbrev pub withQueue : QueueType → Queue → Stream → Stream
 withQueue input q b = record { format = b .format; draining = b .draining; inputs = q; outputs = b .outputs }
 withQueue output q b = record { format = b .format; draining = b .draining; inputs = b .inputs; outputs = q }
 
--- the record with another owed drain, or none
+-- the record with another pending drain, or none
 abbrev pub withDrain : Option ℕ → Stream → Stream
 withDrain d b = record { format = b .format; draining = d; inputs = b .inputs; outputs = b .outputs }
 
@@ -197,8 +197,8 @@ install n r (vacant ∷ ps) = place n r ∷ ps
 install n r (occupied m b ∷ ps) = occupied m b ∷ install n r ps
 
 -- the record of n put back after a step of n
-unfoldable pub put : ℕ → Option Stream → List Place → List Place
-put n r ps = cond (isNone (recordOf n ps)) (install n r ps) (replace n r ps)
+unfoldable pub putRecord : ℕ → Option Stream → List Place → List Place
+putRecord n r ps = cond (isNone (recordOf n ps)) (install n r ps) (replace n r ps)
 
 -- The device
 
@@ -208,4 +208,4 @@ withPlaces ps d = record { places = ps }
 
 -- the device after a step of n that leaves the record r
 abbrev pub putBack : ℕ → Option Stream → Device → Device
-putBack n r d = withPlaces (put n r (d .places)) d
+putBack n r d = withPlaces (putRecord n r (d .places)) d

@@ -33,21 +33,21 @@ pub data Command : Type 0 where
   live : LiveCommand → Command
 
 -- how long a frame must be
-pub data Length : Type 0 where
-  exactly atLeast : ℕ → Length
+pub data LengthRule : Type 0 where
+  exactly atLeast : ℕ → LengthRule
 
--- a line of the table: type, command, rule of length
-pub record CommandLine : Type 0 where
+-- a rule of the table: type, command, rule of length
+pub record CommandRule : Type 0 where
   pub type : ℕ
   pub command : Command
-  pub rule : Length
+  pub lengthRule : LengthRule
 
--- a line as it is written below
-abbrev pub _is_ofLength_ : ℕ → Command → Length → CommandLine
-ty is c ofLength l = record { type = ty; command = c; rule = l }
+-- a rule as it is written below
+abbrev pub _is_ofLength_ : ℕ → Command → LengthRule → CommandRule
+ty is c ofLength l = record { type = ty; command = c; lengthRule = l }
 
 -- the table of commands
-abbrev pub commands : List CommandLine
+abbrev pub commands : List CommandRule
 commands =
     createType is create ofLength exactly createLength
     ∷ 0x0102 is live destroy ofLength exactly 8
@@ -63,17 +63,17 @@ commands =
     ∷ 0x010C is live control ofLength atLeast 16
     ∷ []
 
--- the line of a type
-abbrev pub lineOf : ℕ → List CommandLine → Option CommandLine
-lineOf ty [] = none
-lineOf ty (l ∷ ls) = cond (eqb (l .type) ty) (some l) (lineOf ty ls)
+-- the rule of a type
+abbrev pub ruleOf : ℕ → List CommandRule → Option CommandRule
+ruleOf ty [] = none
+ruleOf ty (l ∷ ls) = cond (eqb (l .type) ty) (some l) (ruleOf ty ls)
 
 -- the command of a type; none for 0x0100 and for an unknown one
-unfoldable pub commandOf : ℕ → Option CommandLine
-commandOf ty = lineOf ty commands
+unfoldable pub commandOf : ℕ → Option CommandRule
+commandOf ty = ruleOf ty commands
 
 -- a length that is not the command's
-abbrev pub wrongLength : Length → ℕ → Bool
+abbrev pub wrongLength : LengthRule → ℕ → Bool
 wrongLength (exactly k) n = not (eqb n k)
 wrongLength (atLeast k) n = ltb n k
 

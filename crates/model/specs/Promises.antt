@@ -6,24 +6,24 @@ use mathlib.Core.Bool.{Bool, true, false, not, _&&_, _||_}
 use mathlib.Core.List.{List, [], _∷_, map}
 use lib.ListN.{length, take, drop}
 use lib.Dec.{eqb, leb}
-use Rattle.laws.specs.Lists.{allOf, count}
+use Rattle.laws.specs.Lists.{allOf, howMany}
 use Rattle.model.specs.Numbers.{tableWords, answerRoom}
 use Rattle.model.specs.Device.{Place, vacant, occupied, Device, fresh}
 use Rattle.model.specs.Frames.{streamId}
-use Rattle.model.specs.Answers.{ErrorCode, code, Answer, response, words, bytesOf, Written, answersIn}
-use Rattle.model.specs.Steps.{Act, command, finish, drained, Step, step, Entry, entryOf, final, accepted, outOfMemoryAt}
+use Rattle.model.specs.Answers.{ErrorCode, code, Answer, responseOf, wordBytes, bytesOf, Written, answersIn}
+use Rattle.model.specs.Steps.{Act, command, finish, drained, Step, stepOn, Event, eventOf, final, accepted, outOfMemoryAt}
 use Rattle.model.specs.WellFormed.{wellFormed, goodAct, goodSteps}
-use Rattle.model.specs.Tables.{Layout, Effect, untouched, valid, effect, freshen, tableEntry, tableEntries, tableFinal}
+use Rattle.model.specs.Tables.{Layout, Effect, untouched, valid, effect, freshen, tableEvent, tableEvents, tableFinal}
 
 -- Over devices
 
 -- a step leaves a well-formed device well formed
 abbrev pub StaysWellFormed : Type 0
-StaysWellFormed = (d : Device) (s : Step) → wellFormed d ≡ true → goodAct (s .act) ≡ true → wellFormed (step d s .device) ≡ true
+StaysWellFormed = (d : Device) (s : Step) → wellFormed d ≡ true → goodAct (s .act) ≡ true → wellFormed (stepOn d s .device) ≡ true
 
 -- a step writes no more than the room that it must be lent
 abbrev pub FitsRoom : Type 0
-FitsRoom = (d : Device) (s : Step) → wellFormed d ≡ true → length (bytesOf (step d s .answers)) ≤ answerRoom
+FitsRoom = (d : Device) (s : Step) → wellFormed d ≡ true → length (bytesOf (stepOn d s .answers)) ≤ answerRoom
 
 -- no mark on either queue
 abbrev pub unmarked : Place → Bool
@@ -35,12 +35,12 @@ abbrev pub NoMark : Type 0
 NoMark = (ss : List Step) → allOf unmarked (final fresh ss .places) ≡ true
 
 -- an answer as it should stand in the room
-abbrev pub written : Answer → Written
-written a = record { ticket = a .ticket; response = response a }
+abbrev pub asWritten : Answer → Written
+asWritten a = record { ticket = a .ticket; response = responseOf a }
 
 -- the bytes of a step's answers can be read back into answers
 abbrev pub ReadBack : Type 0
-ReadBack = (d : Device) (s : Step) → wellFormed d ≡ true → goodAct (s .act) ≡ true → answersIn (bytesOf (step d s .answers)) ≡ map written (step d s .answers)
+ReadBack = (d : Device) (s : Step) → wellFormed d ≡ true → goodAct (s .act) ≡ true → answersIn (bytesOf (stepOn d s .answers)) ≡ map asWritten (stepOn d s .answers)
 
 -- a place that holds a stream
 abbrev pub isLive : Place → Bool
@@ -49,7 +49,7 @@ isLive (occupied n b) = true
 
 -- 'out of memory' to a creation only where all eight places hold a stream
 abbrev pub FullAtEight : Type 0
-FullAtEight = (d : Device) (s : Step) → wellFormed d ≡ true → outOfMemoryAt (entryOf s (step d s)) ≡ true → count isLive (d .places) ≡ 8
+FullAtEight = (d : Device) (s : Step) → wellFormed d ≡ true → outOfMemoryAt (eventOf s (stepOn d s)) ≡ true → howMany isLive (d .places) ≡ 8
 
 -- Over tables, of any words and any room
 
@@ -81,14 +81,14 @@ pub record OneError (t : List ℕ) (a : Act) (e : Effect) : Type 0 where
   pub error : ErrorCode
   pub asked : a ≡ command ticket frame
   pub sixteen : e .written ≡ 16
-  pub answer : take (e .written) (e .room) ≡ words (ticket ∷ 8 ∷ code error ∷ streamId frame ∷ [])
+  pub answer : take (e .written) (e .room) ≡ wordBytes (ticket ∷ 8 ∷ code error ∷ streamId frame ∷ [])
   pub stays : e .table ≡ t
 
 -- an error answer changes nothing else
 abbrev pub ErrorChangesNothing : Layout → Type 0
 ErrorChangesNothing L =
     (t : List ℕ) (s : Step) → goodAct (s .act) ≡ true → effect L t (s .act) (s .room) .refusal ≡ 0
-    → accepted (tableEntry L s (effect L t (s .act) (s .room))) ≡ false → OneError t (s .act) (effect L t (s .act) (s .room))
+    → accepted (tableEvent L s (effect L t (s .act) (s .room))) ≡ false → OneError t (s .act) (effect L t (s .act) (s .room))
 
 -- words behind the used ones and bytes behind those written stay, and so do the lengths
 pub record RestStays (t room : List ℕ) (e : Effect) : Type 0 where
@@ -116,12 +116,12 @@ abbrev pub OnlyListed : Layout → Type 0
 OnlyListed L = (t : List ℕ) (a : Act) (room : List ℕ) → listed a (effect L t a room .refusal) ≡ true
 
 -- refused with neither 1 nor 2
-abbrev pub tableGood : Entry → Bool
+abbrev pub tableGood : Event → Bool
 tableGood e = not (eqb (e .refusal) 1) && not (eqb (e .refusal) 2)
 
 -- no step of a list from a fresh table is refused for its table
 abbrev pub NoTableRefusal : Layout → Type 0
-NoTableRefusal L = (t : List ℕ) (ss : List Step) → tableWords ≤ length t → goodSteps ss ≡ true → allOf tableGood (tableEntries L (freshen L t .table) ss) ≡ true
+NoTableRefusal L = (t : List ℕ) (ss : List Step) → tableWords ≤ length t → goodSteps ss ≡ true → allOf tableGood (tableEvents L (freshen L t .table) ss) ≡ true
 
 -- a step writes at most 1,056 bytes
 abbrev pub WritesAtMost : Layout → Type 0

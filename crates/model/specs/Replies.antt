@@ -42,6 +42,6 @@ pub data Tests : Type 0 where
   _⇒_then_ : Bool → ErrorCode → Tests → Tests
 
 -- what the tests give
-unfoldable pub first : Request → Tests → Reply
-first c (accept v) = v
-first c (hit ⇒ e then ts) = cond hit (fail c e) (first c ts)
+unfoldable pub byTests : Request → Tests → Reply
+byTests c (accept v) = v
+byTests c (hit ⇒ e then ts) = cond hit (fail c e) (byTests c ts)

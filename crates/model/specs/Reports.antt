@@ -17,7 +17,7 @@ abbrev pub timestampOf : QueueType → Buffer → ℕ → ℕ
 timestampOf input i ts = i .timestamp
 timestampOf output i ts = ts
 
--- EOS on an input, or with no drain owed. Flags above ERR + EOS are refused before.
+-- EOS on an input, or with no drain pending. Flags above ERR + EOS are refused before.
 abbrev pub badEos : ℕ → QueueType → Stream → Bool
 badEos flags q b = leb eos flags && (isInput q || isNone (b .draining))
 
@@ -43,7 +43,7 @@ finishStream n qt r flags ts (some b) = finishQueue n r flags ts b (queueNamed q
 unfoldable pub onFinish : ℕ → ℕ → ℕ → ℕ → ℕ → Option Stream → Reply
 onFinish n qt r flags ts self = cond (ltb (err + eos) flags) (refuse 6 self) (finishStream n qt r flags ts self)
 
--- an owed drain is answered where no input is Queued
+-- a pending drain is answered where no input is Queued
 abbrev pub endDrain : ℕ → Stream → Option ℕ → Reply
 endDrain n b none = refuse 5 (some b)
 endDrain n b (some t) =

@@ -43,14 +43,14 @@ serve around n self (drained m) = onDrained n self
 
 -- The device
 
--- a refusal number or 0, the answers, and the device that is left
-pub record Outcome : Type 0 where
+-- what a step gives on a device: a refusal number or 0, the answers, and the device that is left
+pub record DeviceReply : Type 0 where
   pub refusal : ℕ
   pub answers : List Answer
   pub device : Device
 
 -- refused: nothing written, the device stays
-abbrev pub refused : ℕ → Device → Outcome
+abbrev pub refused : ℕ → Device → DeviceReply
 refused k d = record { refusal = k; answers = []; device = d }
 
 -- what a step of n sees of a device besides its own stream
@@ -58,14 +58,14 @@ abbrev pub around : Device → ℕ → Surroundings
 around d n = record { full = noPlace (d .places) }
 
 -- the record of the stream n is looked up, served and put back
-abbrev pub performOf : Device → Act → Option ℕ → Outcome
+abbrev pub performOf : Device → Act → Option ℕ → DeviceReply
 performOf d a none = refused 4 d
 performOf d a (some n) =
     let v : Reply = serve (around d n) n (recordOf n (d .places)) a in
     record { refusal = v .refusal; answers = v .answers; device = putBack n (v .next) d }
 
 -- a step on a device, for the stream number in it
-abbrev pub perform : Device → Act → Outcome
+abbrev pub perform : Device → Act → DeviceReply
 perform d a = performOf d a (streamOf a)
 
 -- The host's first tests: 1, 3 and 2, in this order, of the table's words, the room's bytes and the table's validity; 0 if none hits
@@ -73,38 +73,39 @@ unfoldable pub hostRefusal : ℕ → ℕ → Bool → ℕ
 hostRefusal words room valid = cond (ltb words tableWords) 1 (cond (ltb room answerRoom) 3 (cond valid 0 2))
 
 -- a step on a device whose table is there and valid
-unfoldable pub step : Device → Step → Outcome
-step d s =
+unfoldable pub stepOn : Device → Step → DeviceReply
+stepOn d s =
     let k = hostRefusal tableWords (length (s .room)) true in
     cond (eqb k 0) (perform d (s .act)) (refused k d)
 
 -- Lists
 
--- a step of a list with what the host gets back: its result (refusal number or 0, bytes written) and the bytes written
-pub record Entry : Type 0 where
+-- a step of a list with what the host gets back: its result (refusal number or 0, bytes written) and the bytes written. It is no event of the
+-- draft's event queue.
+pub record Event : Type 0 where
   pub step : Step
   pub refusal : ℕ
   pub written : ℕ
   pub bytes : List ℕ
 
--- the entry of a step on a device
-abbrev pub entryOf : Step → Outcome → Entry
-entryOf s o = record { step = s; refusal = o .refusal; written = length (bytesOf (o .answers)); bytes = bytesOf (o .answers) }
+-- the event of a step on a device
+abbrev pub eventOf : Step → DeviceReply → Event
+eventOf s o = record { step = s; refusal = o .refusal; written = length (bytesOf (o .answers)); bytes = bytesOf (o .answers) }
 
 -- a list of steps, each on the device that the last one left
-abbrev pub entriesOf : Device → List Step → List Entry
-entriesOf d [] = []
-entriesOf d (s ∷ ss) = entryOf s (step d s) ∷ entriesOf (step d s .device) ss
+abbrev pub eventsOf : Device → List Step → List Event
+eventsOf d [] = []
+eventsOf d (s ∷ ss) = eventOf s (stepOn d s) ∷ eventsOf (stepOn d s .device) ss
 
 -- the device at its end
 abbrev pub final : Device → List Step → Device
 final d [] = d
-final d (s ∷ ss) = final (step d s .device) ss
+final d (s ∷ ss) = final (stepOn d s .device) ss
 
--- What an entry shows. The numbers of 01 are written here again, and not taken from the device's definitions, so that a mistake there shows.
+-- What an event shows. The numbers of 01 are written here again, and not taken from the device's definitions, so that a mistake there shows.
 
 -- the answers that it wrote
-abbrev pub answersOf : Entry → List Written
+abbrev pub answersOf : Event → List Written
 answersOf e = answersIn (e .bytes)
 
 -- an error answer: its type is one of 0x0300 to 0x0305
@@ -112,7 +113,7 @@ abbrev pub isError : Written → Bool
 isError w = within (word (w .response) 0) 0x0300 0x0305
 
 -- accepted, as document 01 has it: the result is 0 and no error answer is written
-unfoldable pub accepted : Entry → Bool
+unfoldable pub accepted : Event → Bool
 accepted e = eqb (e .refusal) 0 && not (anyOf isError (answersOf e))
 
 -- the owner, if there is one, is n
@@ -127,7 +128,7 @@ ownerOf (finish n qt r flags ts) = some n
 ownerOf (drained n) = some n
 
 -- a step belongs to its owner
-unfoldable pub belongs : ℕ → Entry → Bool
+unfoldable pub belongs : ℕ → Event → Bool
 belongs n e = isOwner n (ownerOf (e .step .act))
 
 -- a command of type 0x0101
@@ -141,5 +142,5 @@ abbrev pub saysFull : Written → Bool
 saysFull w = eqb (word (w .response) 0) 0x0301
 
 -- 'out of memory' in document 01's sense for condition 3: a creation answered 0x0301
-unfoldable pub outOfMemoryAt : Entry → Bool
+unfoldable pub outOfMemoryAt : Event → Bool
 outOfMemoryAt e = isCreation (e .step .act) && anyOf saysFull (answersOf e)

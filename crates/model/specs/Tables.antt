@@ -9,7 +9,7 @@ use Rattle.laws.specs.Lists.{same}
 use Rattle.model.specs.Numbers.{tableWords}
 use Rattle.model.specs.Device.{Device, fresh}
 use Rattle.model.specs.Answers.{bytesOf}
-use Rattle.model.specs.Steps.{Act, Step, Outcome, perform, hostRefusal, Entry}
+use Rattle.model.specs.Steps.{Act, Step, DeviceReply, perform, hostRefusal, Event}
 use Rattle.model.specs.WellFormed.{wellFormed}
 
 -- the words of a device, and the device that words stand for
@@ -46,7 +46,7 @@ module _ (L : Layout) where
       wellFormed d && same (take tableWords t) (L .encode d)
 
   -- the new device's words over the used ones, the answers' bytes over the first of the room; all behind them stays
-  abbrev pub carriedOut : Outcome → List ℕ → List ℕ → Effect
+  abbrev pub carriedOut : DeviceReply → List ℕ → List ℕ → Effect
   carriedOut o t room =
       let bytes = bytesOf (o .answers) in
       record {
@@ -72,14 +72,14 @@ module _ (L : Layout) where
   abbrev pub effectOf : List ℕ → Step → Effect
   effectOf t s = effect t (s .act) (s .room)
 
-  -- its entry: what the host gets back
-  abbrev pub tableEntry : Step → Effect → Entry
-  tableEntry s e = record { step = s; refusal = e .refusal; written = e .written; bytes = take (e .written) (e .room) }
+  -- its event: what the host gets back
+  abbrev pub tableEvent : Step → Effect → Event
+  tableEvent s e = record { step = s; refusal = e .refusal; written = e .written; bytes = take (e .written) (e .room) }
 
-  -- the entries of a list
-  abbrev pub tableEntries : List ℕ → List Step → List Entry
-  tableEntries t [] = []
-  tableEntries t (s ∷ ss) = tableEntry s (effectOf t s) ∷ tableEntries (effectOf t s .table) ss
+  -- the events of a list
+  abbrev pub tableEvents : List ℕ → List Step → List Event
+  tableEvents t [] = []
+  tableEvents t (s ∷ ss) = tableEvent s (effectOf t s) ∷ tableEvents (effectOf t s .table) ss
 
   -- the table at its end
   abbrev pub tableFinal : List ℕ → List Step → List ℕ

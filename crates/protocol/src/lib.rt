@@ -1,6 +1,6 @@
 // The draft's numbers and the small types that all layers share, each once.
 mod outcome;
-mod queue;
+mod queue_type;
 mod ranges;
 
 pub use outcome::BAD_FLAGS;
@@ -12,10 +12,10 @@ pub use outcome::SHORT_ROOM;
 pub use outcome::SHORT_TABLE;
 pub use outcome::UNEXPECTED_REPORT;
 pub use outcome::refused;
-pub use queue::Named;
-pub use queue::QueueType;
-pub use queue::queue_named;
-pub use queue::queue_number;
+pub use queue_type::Named;
+pub use queue_type::QueueType;
+pub use queue_type::queue_named;
+pub use queue_type::queue_number;
 pub use ranges::coded_good;
 pub use ranges::extent_good;
 pub use ranges::in_range;

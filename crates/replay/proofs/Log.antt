@@ -2,16 +2,16 @@
 use Rattle.table.specs.Blocks.{layout}
 use Rattle.table.proofs.Theorems.{meets-laws}
 use Rattle.line.proofs.Cutting.{any-calls, any-cutting}
-use Rattle.line.proofs.Shown.{room-free, writes-answers, shows-entries}
-use Rattle.line.proofs.Examples.{examples}
-use Rattle.replay.specs.Promised.{Promised}
+use Rattle.line.proofs.Shown.{room-free, writes-answers, shows-events}
+use Rattle.line.proofs.WorkedExample.{worked-example}
+use Rattle.replay.specs.Promises.{LogPromises}
 
-pub promised : Promised
-promised = record {
+pub log-promises : LogPromises
+log-promises = record {
   anyCutting = any-cutting layout;
   anyCalls = any-calls layout;
   roomFree = room-free layout;
   writesAnswers = writes-answers layout;
-  showsEntries = shows-entries layout meets-laws;
-  examples = examples layout meets-laws;
+  showsEvents = shows-events layout meets-laws;
+  workedExample = worked-example layout meets-laws;
 }

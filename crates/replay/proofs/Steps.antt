@@ -19,7 +19,7 @@ use Rattle.model.specs.Promises.{listed}
 use Rattle.model.proofs.Refusals.{only-listed}
 use Rattle.model.proofs.Unchanged.{writes-at-most}
 use Rattle.table.specs.Blocks.{layout}
-use Rattle.line.specs.Line.{Line, step, refused, lineOf}
+use Rattle.line.specs.Line.{Line, stepLine, refusedLine, lineOf}
 use Rattle.line.specs.Split.{Split, split}
 use Rattle.line.specs.Reading.{Reader, Call, onSplit, onPiece, lastStep}
 use Rattle.line.specs.Log.{Logged, refusalLine, Whole, shown, lineStep}
@@ -38,30 +38,30 @@ listed-small (finish n q r f t) k e =
 listed-small (drained n) k e = decide (leb k 3) (λ p. omega (arith, leb-true k 3 p)) (λ p. omega (arith, eqb-true k 5 (simp p at e)))
 
 -- a line that is a step: what was carried out of it in the answer room
-module _ (L : Layout) (t line room : List ℕ) (a : Act) (is : lineOf line ≡ step a) (long : answerRoom ≤ length room)
+module _ (L : Layout) (t line room : List ℕ) (a : Act) (is : lineOf line ≡ stepLine a) (long : answerRoom ≤ length room)
     (refusal written : ℕ) (t′ room′ : List ℕ) (e : record { refusal = refusal; written = written; table = t′; room = room′ } ≡ effect L t a room) where
   pub small : refusal < 256
   small = subst (λ (x : Effect). x .refusal < 256) (sym e) (listed-small a (effect L t a room .refusal) (only-listed L t a room))
 
-  pub few : written ≤ 1056
-  few = subst (λ (x : Effect). x .written ≤ 1056) (sym e) (writes-at-most L t a room)
+  pub few-bytes : written ≤ 1056
+  few-bytes = subst (λ (x : Effect). x .written ≤ 1056) (sym e) (writes-at-most L t a room)
 
   pub short : length (take written room′) ≤ 1056
-  short = rw (length-take written room′) (omega (arith, few))
+  short = rw (length-take written room′) (omega (arith, few-bytes))
 
-  pub whole : Whole (take written room′)
-  whole =
+  pub whole-answers : Whole (take written room′)
+  whole-answers =
       subst (λ (x : Effect). Whole (take (x .written) (x .room))) (sym e)
       (writes-answers L t a room (subst (λ (l : Line). goodLine l ≡ true) is (steps-are-good line)))
 
   pub logged : {out out′ : List ℕ} {r : ℕ} → Wrote out out′ 0 r (shown refusal (take written room′)) → Logs (lineStep L t line) r t′ out out′
   logged {out} {out′} {r} w =
       subst (λ (x : Logged). Logs x r t′ out out′)
-      (ap (λ (x : Effect). record { output = shown (x .refusal) (take (x .written) (x .room)); table = x .table }) e ∙ sym (line-step L t line room a is long))
+      (ap (λ (x : Effect). record { text = shown (x .refusal) (take (x .written) (x .room)); table = x .table }) e ∙ sym (line-step L t line room a is long))
       (record { wrote = w; table = refl })
 
 -- a line that is refused
-pub logged-refused : (L : Layout) (t line : List ℕ) (k : ℕ) {out out′ : List ℕ} {r : ℕ} → lineOf line ≡ refused k → Wrote out out′ 0 r (refusalLine k)
+pub logged-refused : (L : Layout) (t line : List ℕ) (k : ℕ) {out out′ : List ℕ} {r : ℕ} → lineOf line ≡ refusedLine k → Wrote out out′ 0 r (refusalLine k)
     → Logs (lineStep L t line) r t out out′
 logged-refused L t line k {out} {out′} {r} e w = subst (λ (x : Logged). Logs x r t out out′) (sym (line-refused L t line k e)) (record { wrote = w; table = refl })
 

@@ -1,2 +1,2 @@
 pub mod Fed
-pub mod Promised
+pub mod Promises

@@ -36,7 +36,7 @@ pub fn feed(
     lines::feed(
         table,
         held,
-        kept(have),
+        within_room(have),
         piece,
         &mut frame,
         &mut answers,
@@ -55,17 +55,24 @@ pub fn log_line(table: &mut [u32], line: &[u8], out: &mut [u8; 2112]) -> usize
 }
 
 // Steps the last line where the log ends without byte 10, unless it is empty; returns the bytes written.
-pub fn finish(table: &mut [u32], held: &[u8; 8379], have: usize, out: &mut [u8; 2112]) -> usize
+pub fn last_line(table: &mut [u32], held: &[u8; 8379], have: usize, out: &mut [u8; 2112]) -> usize
     ensures fits { λ r. ⌜ r ≤ length (now (out .exit)) ⌝ }
     ensures means { λ r. ⌜ Logs (lastStep layout (record { table = now (table .entry); line = take have (now (held .entry)) })) r (now (table .exit)) (now (out .entry)) (now (out .exit)) ⌝ }
 {
     let mut frame = [0u8; 4184];
     let mut answers = [0u8; 1056];
-    lines::finish(table, held, kept(have), &mut frame, &mut answers, out)
+    lines::last_line(
+        table,
+        held,
+        within_room(have),
+        &mut frame,
+        &mut answers,
+        out,
+    )
 }
 
 // No more is kept than there is room for.
-fn kept(have: usize) -> usize
+fn within_room(have: usize) -> usize
     ensures fits { λ r. ⌜ r ≤ lineRoom ⌝ }
     ensures same { λ r. ⌜ ((l : List ℕ) → length l ≡ lineRoom → take r l ≡ take have l) ⌝ }
 {

@@ -4,7 +4,7 @@ ghost use Prim.Native.Nat.{_≤_};
 ghost use lib.ListN.{length, take};
 ghost use Rattle.model.specs.Tables.{effect};
 ghost use Rattle.table.specs.Blocks.{layout};
-ghost use Rattle.entry.specs.Entry.{asEffect};
+ghost use Rattle.guard.specs.AsEffect.{asEffect};
 ghost use Rattle.line.specs.Line.{framed, countIn};
 ghost use Rattle.line.specs.Split.{lineRoom};
 ghost use Rattle.line.specs.Log.{lineStep};
@@ -49,7 +49,7 @@ pub fn feed(
 }
 
 // Steps the last line where the log ends without byte 10, unless it is empty.
-pub fn finish(
+pub fn last_line(
     table: &mut [u32],
     held: &[u8],
     have: usize,
@@ -80,24 +80,24 @@ pub fn log_line(
     ensures fits { λ r. ⌜ r ≤ length (now (out .entry)) ⌝ }
     ensures means { λ r. ⌜ Logs (lineStep layout (now (table .entry)) (now (line .entry))) r (now (table .exit)) (now (out .entry)) (now (out .exit)) ⌝ }
 {
-    let decoded = line::decode(line, frame);
+    let decoded = line::decode_line(line, frame);
     let Decoded::Framed(found) = decoded else {
         return line::put_refusal(NO_FRAME, out);
     };
-    let outcome = carry_out(table, found, frame, answers);
+    let outcome = step_frame(table, found, frame, answers);
     let refusal = outcome.refusal;
     let written = outcome.written as usize;
     line::put_outcome(refusal, &answers[..written], out)
 }
 
 // Carries out the step of a frame.
-fn carry_out(table: &mut [u32], found: Frame, frame: &[u8], answers: &mut [u8]) -> Outcome
+fn step_frame(table: &mut [u32], found: Frame, frame: &[u8], answers: &mut [u8]) -> Outcome
     requires { ⌜ countIn found ≤ length (now frame) ⌝ }
     ensures { λ r. ⌜ asEffect r (now (table .exit)) (now (answers .exit)) ≡ effect layout (now (table .entry)) (framed found (now (frame .entry))) (now (answers .entry)) ⌝ }
 {
     match found {
         Frame::Command { ticket, count } => {
-            entry::command(table, ticket, &frame[..count], answers)
+            guard::command(table, ticket, &frame[..count], answers)
         }
         Frame::Finish {
             stream,
@@ -105,7 +105,7 @@ fn carry_out(table: &mut [u32], found: Frame, frame: &[u8], answers: &mut [u8]) 
             resource,
             flags,
             timestamp,
-        } => entry::finish(table, stream, queue, resource, flags, timestamp, answers),
-        Frame::Drained { stream } => entry::drained(table, stream, answers),
+        } => guard::finish(table, stream, queue, resource, flags, timestamp, answers),
+        Frame::Drained { stream } => guard::drained(table, stream, answers),
     }
 }

@@ -7,7 +7,7 @@ use Prim.Native.Nat.{ℕ, _+_, _-_, _≤_, _%_}
 use lib.ListN.{length}
 use lib.Dec.{eqb}
 use borrow.Author.Tests.{not-false}
-use Rattle.laws.specs.Parts.{part, put}
+use Rattle.laws.specs.Parts.{part, withPart}
 use Rattle.laws.specs.Tests.{within}
 use Rattle.laws.specs.Stores.{Wrote}
 use Rattle.laws.proofs.Tests.{and-left, within-bounds}
@@ -18,17 +18,17 @@ use Rattle.model.specs.Replies.{Reply, reply}
 use Rattle.model.specs.Commands.{badExtent}
 use Rattle.model.proofs.Slots.{Distinct}
 use Rattle.model.proofs.WellFormed.{GoodQueue, stream-is, good-queue-of}
-use Rattle.words.specs.Words.{queueWords}
+use Rattle.queue.specs.Words.{queueWords}
 use Rattle.table.specs.Blocks.{queueStart, placeWords}
-use Rattle.table.specs.Search.{sized}
+use Rattle.table.specs.Search.{hasAllSlots}
 use Rattle.table.proofs.Records.{queue-sized, queue-read, queue-lent}
 use Rattle.answer.specs.Answer.{answerTo, plainBytes, plainCode}
 use Rattle.answer.proofs.Laws.{wrote-plain}
-use Rattle.stream.specs.Replied.{Holds, Replied}
+use Rattle.stream.specs.Replied.{BlockOf, Replied}
 
 -- A block that holds the live stream n with the record b
 
-module _ {n : ℕ} {l : List ℕ} {b : Stream} (h : Holds n l b) where
+module _ {n : ℕ} {l : List ℕ} {b : Stream} (h : BlockOf n l b) where
   -- its queue q: sixteen slots, no number twice, a width and a height within their limits
   good-queue : (q : QueueType) → GoodQueue (queueOf q b)
   good-queue q = good-queue-of q b (stream-is b (h .good))
@@ -36,8 +36,8 @@ module _ {n : ℕ} {l : List ℕ} {b : Stream} (h : Holds n l b) where
   pub slot-count : (q : QueueType) → length (queueOf q b .slots) ≡ 16
   slot-count q = (good-queue q) .slots .size
 
-  pub apart : (q : QueueType) → Distinct (queueOf q b .slots)
-  apart q = (good-queue q) .slots .apart
+  pub queues-apart : (q : QueueType) → Distinct (queueOf q b .slots)
+  queues-apart q = (good-queue q) .slots .apart
 
   pub width-good : (q : QueueType) → badExtent (queueOf q b .width) ≡ false
   width-good q = (good-queue q) .width
@@ -45,7 +45,7 @@ module _ {n : ℕ} {l : List ℕ} {b : Stream} (h : Holds n l b) where
   pub height-good : (q : QueueType) → badExtent (queueOf q b .height) ≡ false
   height-good q = (good-queue q) .height
 
-  whole : sized (occupied n b) ≡ true
+  whole : hasAllSlots (occupied n b) ≡ true
   whole = queue-sized n b slot-count
 
   -- its words are read, or lent and come back as those of the queue x
@@ -54,7 +54,7 @@ module _ {n : ℕ} {l : List ℕ} {b : Stream} (h : Holds n l b) where
     queue-words = queue-read n b whole q a at l (h .held)
 
     pub queue-back : (ys : List ℕ) (x : Queue) → (part a (a + 84 - a) l ≡ queueWords (queueOf q b) → ys ≡ queueWords x)
-        → put a (a + 84 - a) l ys ≡ placeWords (occupied n (withQueue q x b))
+        → withPart a (a + 84 - a) l ys ≡ placeWords (occupied n (withQueue q x b))
     queue-back ys x back = queue-lent n b whole q a at l (h .held) ys x back
 
 -- a width or a height within its limits
@@ -64,24 +64,24 @@ extent-most v h = within-bounds v 16 4096 (and-left (within v 16 4096) (eqb (v %
 -- A reply that is known by its answers and its next record
 
 module _ {n : ℕ} {v : Reply} {block room room′ : List ℕ} {written : ℕ} where
-  pub replied : (l : List Answer) (next : Option Stream) → v ≡ reply l next → block ≡ placeWords (place n next) → Wrote room room′ 0 written (bytesOf l) → Replied n v block room room′ written
-  replied l next e w x = record { words = rw e w; bytes = rw e x }
+  pub replied-by : (l : List Answer) (next : Option Stream) → v ≡ reply l next → block ≡ placeWords (place n next) → Wrote room room′ 0 written (bytesOf l) → Replied n v block room room′ written
+  replied-by l next e w x = record { words = rw e w; bytes = rw e x }
 
   -- one plain answer under the ticket t
-  answered : (t k : ℕ) (p : Response) (next : Option Stream) → plainCode p ≡ some k → v ≡ reply (answerTo t n p ∷ []) next
+  answered-plain : (t k : ℕ) (p : Response) (next : Option Stream) → plainCode p ≡ some k → v ≡ reply (answerTo t n p ∷ []) next
       → block ≡ placeWords (place n next) → Wrote room room′ 0 written (plainBytes t k n) → Replied n v block room room′ written
-  answered t k p next is e w x = replied (answerTo t n p ∷ []) next e w (wrote-plain t n k p is x)
+  answered-plain t k p next is e w x = replied-by (answerTo t n p ∷ []) next e w (wrote-plain t n k p is x)
 
   -- plain success, and a block that holds the next record
   pub succeeded : (t : ℕ) (next : Option Stream) → v ≡ reply (answerTo t n success ∷ []) next → block ≡ placeWords (place n next) → Wrote room room′ 0 written (plainBytes t 0x0200 n)
       → Replied n v block room room′ written
-  succeeded t next e w x = answered t 0x0200 success next refl e w x
+  succeeded t next e w x = answered-plain t 0x0200 success next refl e w x
 
   -- an error, and a block that stays
-  pub failed : {b : Stream} (t : ℕ) (e : ErrorCode) → Holds n block b → v ≡ reply (answerTo t n (failure e) ∷ []) (some b) → Wrote room room′ 0 written (plainBytes t (code e) n)
+  pub failed : {b : Stream} (t : ℕ) (e : ErrorCode) → BlockOf n block b → v ≡ reply (answerTo t n (failure e) ∷ []) (some b) → Wrote room room′ 0 written (plainBytes t (code e) n)
       → Replied n v block room room′ written
-  failed {b} t e h is x = answered t (code e) (failure e) (some b) refl is (h .held) x
+  failed {b} t e h is x = answered-plain t (code e) (failure e) (some b) refl is (h .held) x
 
 -- no answer, and a block that holds the next record
 pub silent : {n : ℕ} {v : Reply} {block : List ℕ} (room : List ℕ) (next : Option Stream) → v ≡ reply [] next → block ≡ placeWords (place n next) → Replied n v block room room 0
-silent room next e w = replied [] next e w (wrote-none room 0)
+silent room next e w = replied-by [] next e w (wrote-none room 0)

@@ -1,4 +1,4 @@
--- A queue command between its tests. A bridge between the code and the model: it need not be read to believe the contracts of the entries.
+-- A queue command between its tests. A bridge between the code and the model: it need not be read to believe the contracts of the exported functions.
 use Prim.Native.Nat.{ℕ}
 use mathlib.Core.Path.{_≡_}
 use mathlib.Core.Bool.{Bool, true, false, not, _&&_, _||_}
@@ -8,7 +8,7 @@ use Rattle.laws.specs.Lists.{isNone}
 use Rattle.model.specs.Device.{QueueType, Stream, queueOf}
 use Rattle.model.specs.Frames.{resourceId}
 use Rattle.model.specs.Commands.{isInput}
-use Rattle.words.specs.Search.{findResource}
+use Rattle.queue.specs.Search.{findResource}
 use Rattle.frame.specs.Frame.{goodSizes}
 
 -- the queue takes no buffer: an input queue while draining, or a clear in progress

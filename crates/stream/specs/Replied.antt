@@ -1,5 +1,5 @@
 -- What a function on a live stream's block and the answer room asks for and does. A bridge between the code and the model: it need not be
--- read to believe the contracts of the entries.
+-- read to believe the contracts of the exported functions.
 use Prim.Native.Nat.{ℕ}
 use mathlib.Core.Path.{_≡_}
 use mathlib.Core.Bool.{true}
@@ -13,18 +13,18 @@ use Rattle.model.specs.WellFormed.{goodStream}
 use Rattle.table.specs.Blocks.{placeWords}
 
 -- the words are those of the live stream n with the record b
-pub record Holds (n : ℕ) (words : List ℕ) (b : Stream) : Type 0 where
+pub record BlockOf (n : ℕ) (words : List ℕ) (b : Stream) : Type 0 where
   pub good : goodStream b ≡ true
   pub held : words ≡ placeWords (occupied n b)
 
 -- the words are those of a live stream n
-pub record Live (n : ℕ) (words : List ℕ) : Type 0 where
+pub record LiveBlock (n : ℕ) (words : List ℕ) : Type 0 where
   pub stream : Stream
-  pub holds : Holds n words stream
+  pub holds : BlockOf n words stream
 
 -- what a command to it is told
-abbrev pub asked : ℕ → ℕ → List ℕ → Stream → Request
-asked n t f b = record { stream = n; ticket = t; frame = f; self = some b }
+abbrev pub requestTo : ℕ → ℕ → List ℕ → Stream → Request
+requestTo n t f b = record { stream = n; ticket = t; frame = f; self = some b }
 
 -- the block holds the reply's record, and its answers were written from the start of the room
 pub record Replied (n : ℕ) (v : Reply) (block room room′ : List ℕ) (written : ℕ) : Type 0 where

@@ -9,10 +9,10 @@ ghost use Rattle.laws.specs.Lists.{isNone};
 ghost use Rattle.model.specs.Device.{Queue, Stream, occupied, present};
 ghost use Rattle.model.specs.Frames.{frameWidth, frameHeight, frameRate};
 ghost use Rattle.model.specs.Commands.{onDrain, onCreateResource, isInput, onQueue, onDestroyAll, onGet, formatOf, withParameters, onSet};
-ghost use Rattle.words.specs.Words.{queueWords};
+ghost use Rattle.queue.specs.Words.{queueWords};
 ghost use Rattle.table.specs.Blocks.{placeWords};
-ghost use Rattle.protocol.specs.Queue.{queueTypeOf};
-ghost use Rattle.stream.specs.Replied.{Holds, Live, asked, Replied};
+ghost use Rattle.protocol.specs.QueueTypes.{queueTypeOf};
+ghost use Rattle.stream.specs.Replied.{BlockOf, LiveBlock, requestTo, Replied};
 ghost use Rattle.stream.specs.Queueing.{shut, Placed};
 use protocol::INVALID_OPERATION;
 use protocol::INVALID_PARAMETER;
@@ -21,17 +21,17 @@ use protocol::NV12;
 use protocol::OK;
 use protocol::OUT_OF_MEMORY;
 use protocol::QueueType;
-use table::Drain;
-use words::Found;
-use words::QUEUE_WORDS;
+use queue::Found;
+use queue::QUEUE_WORDS;
+use table::DrainState;
 
-// 0x0103: a drain is owed from now on, unless one is owed already.
+// 0x0103: a drain is pending from now on, unless one is pending already.
 pub fn drain(block: &mut [u32], stream: u32, ticket: u32, room: &mut [u8]) -> usize
     requires { ⌜ (length (now block) ≡ 512) × (1056 ≤ length (now room)) ⌝ }
-    ensures { λ r. ⌜ ((f : List ℕ) (b : Stream) → Holds stream (now (block .entry)) b → Replied stream (onDrain (asked stream ticket f b) b) (now (block .exit)) (now (room .entry)) (now (room .exit)) r) ⌝ }
+    ensures { λ r. ⌜ ((f : List ℕ) (b : Stream) → BlockOf stream (now (block .entry)) b → Replied stream (onDrain (requestTo stream ticket f b) b) (now (block .exit)) (now (room .entry)) (now (room .exit)) r) ⌝ }
 {
-    let owed = table::drain_owed(block);
-    let Drain::Settled = owed else {
+    let pending = table::pending_drain(block);
+    let DrainState::Idle = pending else {
         return answer::put_plain(room, 0, ticket, INVALID_OPERATION, stream);
     };
     table::set_drain(block, ticket);
@@ -48,7 +48,7 @@ pub fn create_resource(
     room: &mut [u8],
 ) -> usize
     requires { ⌜ (length (now block) ≡ 512) × (88 ≤ length (now frame)) × (1056 ≤ length (now room)) ⌝ }
-    ensures { λ r. ⌜ ((b : Stream) → Holds stream (now (block .entry)) b → Replied stream (onCreateResource (asked stream ticket (now (frame .entry)) b) b (queueTypeOf q)) (now (block .exit)) (now (room .entry)) (now (room .exit)) r) ⌝ }
+    ensures { λ r. ⌜ ((b : Stream) → BlockOf stream (now (block .entry)) b → Replied stream (onCreateResource (requestTo stream ticket (now (frame .entry)) b) b (queueTypeOf q)) (now (block .exit)) (now (room .entry)) (now (room .exit)) r) ⌝ }
 {
     if !frame::resource_good(frame) {
         return answer::put_plain(room, 0, ticket, INVALID_PARAMETER, stream);
@@ -58,11 +58,11 @@ pub fn create_resource(
     if number_present(&block[at..at + QUEUE_WORDS], number) {
         return answer::put_plain(room, 0, ticket, INVALID_RESOURCE, stream);
     }
-    let found = words::find_free(&block[at..at + QUEUE_WORDS]);
+    let found = queue::find_free(&block[at..at + QUEUE_WORDS]);
     let Found::At(k) = found else {
         return answer::put_plain(room, 0, ticket, OUT_OF_MEMORY, stream);
     };
-    words::set_created(&mut block[at..at + QUEUE_WORDS], k, number);
+    queue::set_created(&mut block[at..at + QUEUE_WORDS], k, number);
     answer::put_plain(room, 0, ticket, OK, stream)
 }
 
@@ -71,7 +71,7 @@ fn number_present(queue: &[u32], number: u32) -> bool
     requires { ⌜ length (now queue) ≡ 84 ⌝ }
     ensures { λ r. ⌜ ((Q : Queue) → now (queue .entry) ≡ queueWords Q → r ≡ present number (Q .slots)) ⌝ }
 {
-    let found = words::find_resource(queue, number);
+    let found = queue::find_resource(queue, number);
     let Found::At(_) = found else {
         return false;
     };
@@ -88,7 +88,7 @@ pub fn queue_resource(
     room: &mut [u8],
 ) -> usize
     requires { ⌜ (length (now block) ≡ 512) × (64 ≤ length (now frame)) × (1056 ≤ length (now room)) ⌝ }
-    ensures { λ r. ⌜ ((b : Stream) → Holds stream (now (block .entry)) b → Replied stream (onQueue (asked stream ticket (now (frame .entry)) b) b (queueTypeOf q)) (now (block .exit)) (now (room .entry)) (now (room .exit)) r) ⌝ }
+    ensures { λ r. ⌜ ((b : Stream) → BlockOf stream (now (block .entry)) b → Replied stream (onQueue (requestTo stream ticket (now (frame .entry)) b) b (queueTypeOf q)) (now (block .exit)) (now (room .entry)) (now (room .exit)) r) ⌝ }
 {
     if !frame::sizes_good(frame) {
         return answer::put_plain(room, 0, ticket, INVALID_PARAMETER, stream);
@@ -97,7 +97,7 @@ pub fn queue_resource(
         return answer::put_plain(room, 0, ticket, INVALID_OPERATION, stream);
     }
     let at = table::queue_start(q);
-    let found = words::find_resource(&block[at..at + QUEUE_WORDS], frame::resource(frame));
+    let found = queue::find_resource(&block[at..at + QUEUE_WORDS], frame::resource(frame));
     let Found::At(k) = found else {
         return answer::put_plain(room, 0, ticket, INVALID_RESOURCE, stream);
     };
@@ -115,39 +115,39 @@ fn queue_slot(
     room: &mut [u8],
 ) -> usize
     requires { ⌜ (length (now block) ≡ 512) × (64 ≤ length (now frame)) × (k < 16) × (1056 ≤ length (now room)) ⌝ }
-    ensures { λ r. ⌜ ((b : Stream) → Holds stream (now (block .entry)) b → Placed (now (frame .entry)) b (queueTypeOf q) k → Replied stream (onQueue (asked stream ticket (now (frame .entry)) b) b (queueTypeOf q)) (now (block .exit)) (now (room .entry)) (now (room .exit)) r) ⌝ }
+    ensures { λ r. ⌜ ((b : Stream) → BlockOf stream (now (block .entry)) b → Placed (now (frame .entry)) b (queueTypeOf q) k → Replied stream (onQueue (requestTo stream ticket (now (frame .entry)) b) b (queueTypeOf q)) (now (block .exit)) (now (room .entry)) (now (room .exit)) r) ⌝ }
 {
     let at = table::queue_start(q);
-    if words::slot_queued(&block[at..at + QUEUE_WORDS], k) {
+    if queue::slot_queued(&block[at..at + QUEUE_WORDS], k) {
         return answer::put_plain(room, 0, ticket, INVALID_OPERATION, stream);
     }
     let timestamp = frame::timestamp(frame);
-    words::set_queued(&mut block[at..at + QUEUE_WORDS], k, ticket, timestamp);
+    queue::set_queued(&mut block[at..at + QUEUE_WORDS], k, ticket, timestamp);
     0
 }
 
 // Whether a queue takes no buffer now: an input queue while draining, or a clear in progress.
 fn queue_shut(block: &[u32], q: QueueType) -> bool
     requires { ⌜ length (now block) ≡ 512 ⌝ }
-    ensures { λ r. ⌜ ((n : ℕ) (b : Stream) → Holds n (now (block .entry)) b → r ≡ shut (queueTypeOf q) b) ⌝ }
+    ensures { λ r. ⌜ ((n : ℕ) (b : Stream) → BlockOf n (now (block .entry)) b → r ≡ shut (queueTypeOf q) b) ⌝ }
 {
     if input_draining(block, q) {
         return true;
     }
     let at = table::queue_start(q);
-    words::clearing(&block[at..at + QUEUE_WORDS])
+    queue::clearing(&block[at..at + QUEUE_WORDS])
 }
 
-// Whether the queue is the input queue of a stream that owes a drain.
+// Whether the queue is the input queue of a stream whose drain is pending.
 fn input_draining(block: &[u32], q: QueueType) -> bool
     requires { ⌜ length (now block) ≡ 512 ⌝ }
-    ensures { λ r. ⌜ ((n : ℕ) (b : Stream) → Holds n (now (block .entry)) b → r ≡ (isInput (queueTypeOf q) && not (isNone (b .draining)))) ⌝ }
+    ensures { λ r. ⌜ ((n : ℕ) (b : Stream) → BlockOf n (now (block .entry)) b → r ≡ (isInput (queueTypeOf q) && not (isNone (b .draining)))) ⌝ }
 {
     let QueueType::Input = q else {
         return false;
     };
-    let owed = table::drain_owed(block);
-    let Drain::Owed(_) = owed else {
+    let pending = table::pending_drain(block);
+    let DrainState::Draining(_) = pending else {
         return false;
     };
     true
@@ -162,13 +162,13 @@ pub fn destroy_all(
     room: &mut [u8],
 ) -> usize
     requires { ⌜ (length (now block) ≡ 512) × (1056 ≤ length (now room)) ⌝ }
-    ensures { λ r. ⌜ ((f : List ℕ) (b : Stream) → Holds stream (now (block .entry)) b → Replied stream (onDestroyAll (asked stream ticket f b) b (queueTypeOf q)) (now (block .exit)) (now (room .entry)) (now (room .exit)) r) ⌝ }
+    ensures { λ r. ⌜ ((f : List ℕ) (b : Stream) → BlockOf stream (now (block .entry)) b → Replied stream (onDestroyAll (requestTo stream ticket f b) b (queueTypeOf q)) (now (block .exit)) (now (room .entry)) (now (room .exit)) r) ⌝ }
 {
     let at = table::queue_start(q);
-    if words::any_queued(&block[at..at + QUEUE_WORDS]) {
+    if queue::any_queued(&block[at..at + QUEUE_WORDS]) {
         return answer::put_plain(room, 0, ticket, INVALID_OPERATION, stream);
     }
-    words::free_all(&mut block[at..at + QUEUE_WORDS]);
+    queue::free_all(&mut block[at..at + QUEUE_WORDS]);
     answer::put_plain(room, 0, ticket, OK, stream)
 }
 
@@ -180,14 +180,14 @@ pub fn get_parameters(
     q: QueueType,
     room: &mut [u8],
 ) -> usize
-    requires { ⌜ (length (now block) ≡ 512) × Live stream (now block) × (1056 ≤ length (now room)) ⌝ }
-    ensures { λ r. ⌜ ((f : List ℕ) (b : Stream) → Holds stream (now (block .entry)) b → Replied stream (onGet (asked stream ticket f b) b (queueTypeOf q)) (now (block .entry)) (now (room .entry)) (now (room .exit)) r) ⌝ }
+    requires { ⌜ (length (now block) ≡ 512) × LiveBlock stream (now block) × (1056 ≤ length (now room)) ⌝ }
+    ensures { λ r. ⌜ ((f : List ℕ) (b : Stream) → BlockOf stream (now (block .entry)) b → Replied stream (onGet (requestTo stream ticket f b) b (queueTypeOf q)) (now (block .entry)) (now (room .entry)) (now (room .exit)) r) ⌝ }
 {
     let start = table::queue_start(q);
     let queue = &block[start..start + QUEUE_WORDS];
-    let width = words::width(queue);
-    let height = words::height(queue);
-    let rate = words::rate(queue);
+    let width = queue::width(queue);
+    let height = queue::height(queue);
+    let rate = queue::rate(queue);
     let format = queue_format(block, q);
     answer::put_parameters(room, 0, ticket, stream, q, format, width, height, rate)
 }
@@ -202,13 +202,13 @@ pub fn set_parameters(
     room: &mut [u8],
 ) -> usize
     requires { ⌜ (length (now block) ≡ 512) × (120 ≤ length (now frame)) × (1056 ≤ length (now room)) ⌝ }
-    ensures { λ r. ⌜ ((b : Stream) → Holds stream (now (block .entry)) b → Replied stream (onSet (asked stream ticket (now (frame .entry)) b) b (queueTypeOf q)) (now (block .exit)) (now (room .entry)) (now (room .exit)) r) ⌝ }
+    ensures { λ r. ⌜ ((b : Stream) → BlockOf stream (now (block .entry)) b → Replied stream (onSet (requestTo stream ticket (now (frame .entry)) b) b (queueTypeOf q)) (now (block .exit)) (now (room .entry)) (now (room .exit)) r) ⌝ }
 {
     if !frame::set_good(frame, queue_format(block, q)) {
         return answer::put_plain(room, 0, ticket, INVALID_PARAMETER, stream);
     }
     let at = table::queue_start(q);
-    if words::any_queued(&block[at..at + QUEUE_WORDS]) {
+    if queue::any_queued(&block[at..at + QUEUE_WORDS]) {
         return answer::put_plain(room, 0, ticket, INVALID_OPERATION, stream);
     }
     keep_parameters(&mut block[at..at + QUEUE_WORDS], frame);
@@ -223,7 +223,7 @@ fn keep_parameters(queue: &mut [u32], frame: &[u8])
     let width = frame::frame_width(frame);
     let height = frame::frame_height(frame);
     let rate = frame::frame_rate(frame);
-    words::set_parameters(queue, width, height, rate);
+    queue::store_parameters(queue, width, height, rate);
 }
 
 // The format of a queue.

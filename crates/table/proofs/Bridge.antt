@@ -11,7 +11,7 @@ use borrow.Author.Tests.{eqb-true}
 use Rattle.laws.specs.Lists.{isNone}
 use Rattle.laws.proofs.Lists.{decide}
 use Rattle.laws.proofs.Positions.{later-some, later-none}
-use Rattle.model.specs.Device.{Stream, Place, vacant, occupied, recordOf, noPlace, place, replace, install, put}
+use Rattle.model.specs.Device.{Stream, Place, vacant, occupied, recordOf, noPlace, place, replace, install, putRecord}
 use Rattle.model.specs.WellFormed.{distinctPlaces}
 use Rattle.model.proofs.Places.{alone-head, alone-tail, replace-absent}
 use Rattle.table.specs.Search.{placeAt, isStream, findStream, findVacant}
@@ -72,8 +72,8 @@ stream-missing n (occupied m b ∷ ps) e =
     (λ h. simp h (stream-missing n ps (later-none (findStream n ps) (simp h at e))))
 
 -- its record is put back, or its place becomes vacant
-pub stream-put : (n k : ℕ) (ps : List Place) → LiveAt n k ps → distinctPlaces ps ≡ true → (r : Option Stream) → put n r ps ≡ set ps k (place n r)
-unfolding put
+pub stream-put : (n k : ℕ) (ps : List Place) → LiveAt n k ps → distinctPlaces ps ≡ true → (r : Option Stream) → putRecord n r ps ≡ set ps k (place n r)
+unfolding putRecord
 stream-put n k ps a x r = rw (a .known) (a .replaced x r)
 
 -- The lowest vacant place is k
@@ -100,6 +100,6 @@ vacant-missing (vacant ∷ ps) e = absurd (let z : _≡_ {A = ℕ} 0 1 = cc in o
 vacant-missing (occupied m b ∷ ps) e = vacant-missing ps (later-none (findVacant ps) e)
 
 -- a new stream's record is put there
-pub vacant-put : (n k : ℕ) (b : Stream) (ps : List Place) → VacantAt k ps → recordOf n ps ≡ none → put n (some b) ps ≡ set ps k (occupied n b)
-unfolding put
+pub vacant-put : (n k : ℕ) (b : Stream) (ps : List Place) → VacantAt k ps → recordOf n ps ≡ none → putRecord n (some b) ps ≡ set ps k (occupied n b)
+unfolding putRecord
 vacant-put n k b ps a x = rw x (a .installed n (some b))

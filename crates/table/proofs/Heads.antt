@@ -6,13 +6,13 @@ use Prim.Native.Nat.{ℕ}
 use native.Mathlib.Omega.{arith}
 use lib.ListN.{length, getD, set, length-append, length-set}
 use borrow.Author.Tests.{eqb-false}
-use Rattle.laws.specs.Parts.{part, put, zeros, pieces}
-use Rattle.laws.proofs.Parts.{zero-length, zero-at, zeros-append, part-mid, put-mid}
+use Rattle.laws.specs.Parts.{part, withPart, zeros, pieces}
+use Rattle.laws.proofs.Parts.{zero-length, zero-at, zeros-append, part-mid, withPart-mid}
 use Rattle.model.specs.Device.{Stream, Place, vacant, occupied, newQueue, newStream, withDrain}
-use Rattle.words.specs.Words.{queueWords}
-use Rattle.words.proofs.Records.{queue-length}
+use Rattle.queue.specs.Words.{queueWords}
+use Rattle.queue.proofs.Records.{queue-length}
 use Rattle.table.specs.Blocks.{drainWords, headWords, placeWords}
-use Rattle.table.specs.Search.{isVacant, isStream, startsWith}
+use Rattle.table.specs.Search.{isVacant, isStream, headIs}
 
 -- Live or vacant, and the number
 
@@ -25,13 +25,13 @@ unfolding placeWords headWords
 live-word l n b e = ap (λ (x : List ℕ). getD x 0 0) e
 
 -- a live stream's block starts with 1 and its number, and a vacant one with zeros
-pub stream-starts : (n : ℕ) (p : Place) → startsWith 1 n (placeWords p) ≡ isStream n p
-unfolding startsWith placeWords headWords
+pub stream-starts : (n : ℕ) (p : Place) → headIs 1 n (placeWords p) ≡ isStream n p
+unfolding headIs placeWords headWords
 stream-starts n vacant = rw (vacant-word refl)
 stream-starts n (occupied m b) = refl
 
-pub vacant-starts : (p : Place) → startsWith 0 0 (placeWords p) ≡ isVacant p
-unfolding startsWith placeWords headWords
+pub vacant-starts : (p : Place) → headIs 0 0 (placeWords p) ≡ isVacant p
+unfolding headIs placeWords headWords
 vacant-starts vacant = rw (zero-at 512 0 (omega arith), zero-at 512 1 (omega arith))
 vacant-starts (occupied m b) = refl
 
@@ -42,26 +42,26 @@ unfolding placeWords headWords
 format-word l n b e = ap (λ (x : List ℕ). getD x 2 0) e
 
 -- the words from 3 on
-settled-words : (d : Option ℕ) (z r : List ℕ) → getD (drainWords d ++ z ++ r) 0 0 ≡ 0 → none ≡ d
-settled-words none z r e = refl
-settled-words (some t) z r e = absurd (eqb-false 1 0 refl e)
+no-drain-words : (d : Option ℕ) (z r : List ℕ) → getD (drainWords d ++ z ++ r) 0 0 ≡ 0 → none ≡ d
+no-drain-words none z r e = refl
+no-drain-words (some t) z r e = absurd (eqb-false 1 0 refl e)
 
-owed-words : (d : Option ℕ) (z r : List ℕ) → (getD (drainWords d ++ z ++ r) 0 0 ≡ 0 → ⊥) → some (getD (drainWords d ++ z ++ r) 1 0) ≡ d
-owed-words none z r e = absurd (e refl)
-owed-words (some t) z r e = refl
+drain-words : (d : Option ℕ) (z r : List ℕ) → (getD (drainWords d ++ z ++ r) 0 0 ≡ 0 → ⊥) → some (getD (drainWords d ++ z ++ r) 1 0) ≡ d
+drain-words none z r e = absurd (e refl)
+drain-words (some t) z r e = refl
 
 put-drain : (d : Option ℕ) (z r : List ℕ) (x y : ℕ) → set (set (drainWords d ++ z ++ r) 0 x) 1 y ≡ x ∷ y ∷ (z ++ r)
 put-drain none z r x y = refl
 put-drain (some t) z r x y = refl
 
 module _ (l : List ℕ) (n : ℕ) (b : Stream) (e : l ≡ placeWords (occupied n b)) where
-  pub drain-settled : getD l 3 0 ≡ 0 → none ≡ b .draining
+  pub drain-absent : getD l 3 0 ≡ 0 → none ≡ b .draining
   unfolding placeWords headWords
-  drain-settled z = settled-words (b .draining) (zeros 3) _ (rw e at z)
+  drain-absent z = no-drain-words (b .draining) (zeros 3) _ (rw e at z)
 
   pub drain-pending : (getD l 3 0 ≡ 0 → ⊥) → some (getD l 4 0) ≡ b .draining
   unfolding placeWords headWords
-  drain-pending z = ap (λ (x : List ℕ). some (getD x 4 0)) e ∙ owed-words (b .draining) (zeros 3) _ (rw e at z)
+  drain-pending z = ap (λ (x : List ℕ). some (getD x 4 0)) e ∙ drain-words (b .draining) (zeros 3) _ (rw e at z)
 
   pub drain-set : (t : ℕ) → set (set l 3 1) 4 t ≡ placeWords (occupied n (withDrain (some t) b))
   unfolding placeWords headWords
@@ -104,18 +104,18 @@ module _ (l q r : List ℕ) (e : l ≡ placeWords vacant) where
   parts = e ∙ sym four
 
   -- both queues are written over zeros, and then the first words
-  pub new-block : (part 8 84 l ≡ zeros 84 → q ≡ queueWords newQueue) → (part 92 84 (put 8 84 l q) ≡ zeros 84 → r ≡ queueWords newQueue)
-      → (n f : ℕ) → headed (put 92 84 (put 8 84 l q) r) n f ≡ placeWords (occupied n (newStream f))
+  pub new-block : (part 8 84 l ≡ zeros 84 → q ≡ queueWords newQueue) → (part 92 84 (withPart 8 84 l q) ≡ zeros 84 → r ≡ queueWords newQueue)
+      → (n f : ℕ) → headed (withPart 92 84 (withPart 8 84 l q) r) n f ≡ placeWords (occupied n (newStream f))
   unfolding placeWords
   new-block first second n f =
       let one : q ≡ queueWords newQueue = first (ap (part 8 84) parts ∙ part-mid (zeros 8) (zeros 84) (zeros 84 ++ zeros 336) 8 84 (zero-length 8) (zero-length 84)) in
-      let input : put 8 84 l q ≡ zeros 8 ++ queueWords newQueue ++ (zeros 84 ++ zeros 336) =
-      ap₂ (put 8 84) parts one
-      ∙ put-mid (zeros 8) (zeros 84) (zeros 84 ++ zeros 336) 8 84 (zero-length 8) (zero-length 84) (queueWords newQueue)
+      let input : withPart 8 84 l q ≡ zeros 8 ++ queueWords newQueue ++ (zeros 84 ++ zeros 336) =
+      ap₂ (withPart 8 84) parts one
+      ∙ withPart-mid (zeros 8) (zeros 84) (zeros 84 ++ zeros 336) 8 84 (zero-length 8) (zero-length 84) (queueWords newQueue)
       ∙ sym (append-assoc (zeros 8) (queueWords newQueue) (zeros 84 ++ zeros 336)) in
       let two : r ≡ queueWords newQueue = second (ap (part 92 84) input ∙ part-mid (zeros 8 ++ queueWords newQueue) (zeros 84) (zeros 336) 92 84 front (zero-length 84)) in
-      let output : put 92 84 (put 8 84 l q) r ≡ zeros 8 ++ (queueWords newQueue ++ (queueWords newQueue ++ zeros 336)) =
-      ap₂ (put 92 84) input two
-      ∙ put-mid (zeros 8 ++ queueWords newQueue) (zeros 84) (zeros 336) 92 84 front (zero-length 84) (queueWords newQueue)
+      let output : withPart 92 84 (withPart 8 84 l q) r ≡ zeros 8 ++ (queueWords newQueue ++ (queueWords newQueue ++ zeros 336)) =
+      ap₂ (withPart 92 84) input two
+      ∙ withPart-mid (zeros 8 ++ queueWords newQueue) (zeros 84) (zeros 336) 92 84 front (zero-length 84) (queueWords newQueue)
       ∙ append-assoc (zeros 8) (queueWords newQueue) (queueWords newQueue ++ zeros 336) in
       ap (λ (x : List ℕ). headed x n f) output ∙ put-head (queueWords newQueue ++ (queueWords newQueue ++ zeros 336)) n f

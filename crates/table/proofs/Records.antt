@@ -11,16 +11,16 @@ use lib.Seq.{take-at}
 use lib.Dec.{eqb}
 use borrow.Author.Tests.{eq-eqb, eqb-true}
 use Rattle.laws.specs.Lists.{allOf}
-use Rattle.laws.specs.Parts.{part, put, zeros}
+use Rattle.laws.specs.Parts.{part, withPart, zeros}
 use Rattle.laws.proofs.Tests.{both, and-left, and-right}
-use Rattle.laws.proofs.Parts.{zero-length, zero-at, part-mid, put-mid, part-front, put-front, lent}
-use Rattle.laws.proofs.Pieces.{pieces-length, pieces-part, pieces-put, pieces-read}
+use Rattle.laws.proofs.Parts.{zero-length, zero-at, part-mid, withPart-mid, part-front, withPart-front, lent}
+use Rattle.laws.proofs.Pieces.{pieces-length, pieces-part, pieces-withPart, pieces-read}
 use Rattle.model.specs.Numbers.{tableWords}
 use Rattle.model.specs.Device.{QueueType, input, output, Queue, Stream, Place, vacant, occupied, Device, queueOf, withQueue, withPlaces}
-use Rattle.words.specs.Words.{queueWords, decodeQueue}
-use Rattle.words.proofs.Records.{queue-length, decode-queue}
+use Rattle.queue.specs.Words.{queueWords, decodeQueue}
+use Rattle.queue.proofs.Records.{queue-length, decode-queue}
 use Rattle.table.specs.Blocks.{queueStart, drainWords, headWords, placeWords, blocks, blocksSize, behind, encode, drainIn, decodePlace, placesIn, decode}
-use Rattle.table.specs.Search.{placeAt, sized}
+use Rattle.table.specs.Search.{placeAt, hasAllSlots}
 
 -- Lengths
 
@@ -30,14 +30,14 @@ head-length n format none = refl
 head-length n format (some t) = refl
 
 -- a sized place's queues have sixteen slots each
-pub sized-queue : (q : QueueType) (n : ℕ) (b : Stream) → sized (occupied n b) ≡ true → length (queueOf q b .slots) ≡ 16
+pub sized-queue : (q : QueueType) (n : ℕ) (b : Stream) → hasAllSlots (occupied n b) ≡ true → length (queueOf q b .slots) ≡ 16
 sized-queue input n b h = eqb-true (length (b .inputs .slots)) 16 (and-left (eqb (length (b .inputs .slots)) 16) _ h)
 sized-queue output n b h = eqb-true (length (b .outputs .slots)) 16 (and-right (eqb (length (b .inputs .slots)) 16) _ h)
 
-pub queue-sized : (n : ℕ) (b : Stream) → ((q : QueueType) → length (queueOf q b .slots) ≡ 16) → sized (occupied n b) ≡ true
+pub queue-sized : (n : ℕ) (b : Stream) → ((q : QueueType) → length (queueOf q b .slots) ≡ 16) → hasAllSlots (occupied n b) ≡ true
 queue-sized n b h = both (eq-eqb (length (b .inputs .slots)) 16 (h input)) (eq-eqb (length (b .outputs .slots)) 16 (h output))
 
-pub place-length : (p : Place) → sized p ≡ true → length (placeWords p) ≡ 512
+pub place-length : (p : Place) → hasAllSlots p ≡ true → length (placeWords p) ≡ 512
 unfolding placeWords
 place-length vacant h = zero-length 512
 place-length (occupied n b) h =
@@ -45,9 +45,9 @@ place-length (occupied n b) h =
 
 -- A queue in its place
 
-module _ (n : ℕ) (b : Stream) (h : sized (occupied n b) ≡ true) where
-  head : List ℕ
-  head = headWords n (b .format) (b .draining)
+module _ (n : ℕ) (b : Stream) (h : hasAllSlots (occupied n b) ≡ true) where
+  block-head : List ℕ
+  block-head = headWords n (b .format) (b .draining)
 
   ins : length (queueWords (b .inputs)) ≡ 84
   ins = queue-length (b .inputs) (sized-queue input n b h)
@@ -59,20 +59,20 @@ module _ (n : ℕ) (b : Stream) (h : sized (occupied n b) ≡ true) where
   front = simp (length-append, head-length, ins)
 
   pub queue-part : (q : QueueType) → part (queueStart q) 84 (placeWords (occupied n b)) ≡ queueWords (queueOf q b)
-  unfolding placeWords head
-  queue-part input = part-mid head (queueWords (b .inputs)) (queueWords (b .outputs) ++ zeros 336) 8 84 (head-length n (b .format) (b .draining)) ins
+  unfolding placeWords block-head
+  queue-part input = part-mid block-head (queueWords (b .inputs)) (queueWords (b .outputs) ++ zeros 336) 8 84 (head-length n (b .format) (b .draining)) ins
   queue-part output =
-      ap (part 92 84) (sym (append-assoc head (queueWords (b .inputs)) (queueWords (b .outputs) ++ zeros 336)))
-      ∙ part-mid (head ++ queueWords (b .inputs)) (queueWords (b .outputs)) (zeros 336) 92 84 front outs
+      ap (part 92 84) (sym (append-assoc block-head (queueWords (b .inputs)) (queueWords (b .outputs) ++ zeros 336)))
+      ∙ part-mid (block-head ++ queueWords (b .inputs)) (queueWords (b .outputs)) (zeros 336) 92 84 front outs
 
-  pub queue-put : (q : QueueType) (x : Queue) → put (queueStart q) 84 (placeWords (occupied n b)) (queueWords x) ≡ placeWords (occupied n (withQueue q x b))
-  unfolding placeWords head
+  pub queue-put : (q : QueueType) (x : Queue) → withPart (queueStart q) 84 (placeWords (occupied n b)) (queueWords x) ≡ placeWords (occupied n (withQueue q x b))
+  unfolding placeWords block-head
   queue-put input x =
-      put-mid head (queueWords (b .inputs)) (queueWords (b .outputs) ++ zeros 336) 8 84 (head-length n (b .format) (b .draining)) ins (queueWords x)
+      withPart-mid block-head (queueWords (b .inputs)) (queueWords (b .outputs) ++ zeros 336) 8 84 (head-length n (b .format) (b .draining)) ins (queueWords x)
   queue-put output x =
-      ap (λ (l : List ℕ). put 92 84 l (queueWords x)) (sym (append-assoc head (queueWords (b .inputs)) (queueWords (b .outputs) ++ zeros 336)))
-      ∙ put-mid (head ++ queueWords (b .inputs)) (queueWords (b .outputs)) (zeros 336) 92 84 front outs (queueWords x)
-      ∙ append-assoc head (queueWords (b .inputs)) (queueWords x ++ zeros 336)
+      ap (λ (l : List ℕ). withPart 92 84 l (queueWords x)) (sym (append-assoc block-head (queueWords (b .inputs)) (queueWords (b .outputs) ++ zeros 336)))
+      ∙ withPart-mid (block-head ++ queueWords (b .inputs)) (queueWords (b .outputs)) (zeros 336) 92 84 front outs (queueWords x)
+      ∙ append-assoc block-head (queueWords (b .inputs)) (queueWords x ++ zeros 336)
 
   -- its words, from a on, are read, or lent and come back as those of x
   module _ (q : QueueType) (a : ℕ) (at : a ≡ queueStart q) (l : List ℕ) (e : l ≡ placeWords (occupied n b)) where
@@ -83,32 +83,32 @@ module _ (n : ℕ) (b : Stream) (h : sized (occupied n b) ≡ true) where
     queue-read = rw (add-sub-cancel-left a 84) here
 
     pub queue-lent : (ys : List ℕ) (x : Queue) → (part a (a + 84 - a) l ≡ queueWords (queueOf q b) → ys ≡ queueWords x)
-        → put a (a + 84 - a) l ys ≡ placeWords (occupied n (withQueue q x b))
+        → withPart a (a + 84 - a) l ys ≡ placeWords (occupied n (withQueue q x b))
     queue-lent ys x =
         lent a (a + 84) 84 l (queueWords (queueOf q b)) (queueWords x) (placeWords (occupied n (withQueue q x b))) ys (add-sub-cancel-left a 84) here
-        (ap₂ (λ (i : ℕ) (w : List ℕ). put i 84 w (queueWords x)) at e ∙ queue-put q x)
+        (ap₂ (λ (i : ℕ) (w : List ℕ). withPart i 84 w (queueWords x)) at e ∙ queue-put q x)
 
 -- A place among the blocks
 
-pub blocks-length : (ps : List Place) → allOf sized ps ≡ true → length (blocks ps) ≡ 512 * length ps
+pub blocks-length : (ps : List Place) → allOf hasAllSlots ps ≡ true → length (blocks ps) ≡ 512 * length ps
 unfolding blocks
-blocks-length ps s = pieces-length placeWords 512 sized place-length ps s
+blocks-length ps s = pieces-length placeWords 512 hasAllSlots place-length ps s
 
 -- 4,096 words that are the blocks of sized places are those of eight
-pub held-places : (l : List ℕ) (ps : List Place) → allOf sized ps ≡ true → length l ≡ blocksSize → l ≡ blocks ps → length ps ≡ 8
+pub held-places : (l : List ℕ) (ps : List Place) → allOf hasAllSlots ps ≡ true → length l ≡ blocksSize → l ≡ blocks ps → length ps ≡ 8
 held-places l ps s long e = omega (arith, blocks-length ps s, ap length e)
 
-module _ (ps : List Place) (k : ℕ) (s : allOf sized ps ≡ true) (h : k < length ps) where
+module _ (ps : List Place) (k : ℕ) (s : allOf hasAllSlots ps ≡ true) (h : k < length ps) where
   pub place-part : part (512 * k) 512 (blocks ps) ≡ placeWords (placeAt k ps)
   unfolding blocks
-  place-part = pieces-part placeWords 512 sized place-length ps s k vacant h
+  place-part = pieces-part placeWords 512 hasAllSlots place-length ps s k vacant h
 
-  pub place-put : (p : Place) → put (512 * k) 512 (blocks ps) (placeWords p) ≡ blocks (set ps k p)
+  pub place-put : (p : Place) → withPart (512 * k) 512 (blocks ps) (placeWords p) ≡ blocks (set ps k p)
   unfolding blocks
-  place-put p = pieces-put placeWords 512 sized place-length ps s k p h
+  place-put p = pieces-withPart placeWords 512 hasAllSlots place-length ps s k p h
 
 -- its words are read
-pub place-read : (l : List ℕ) (ps : List Place) (k : ℕ) → length l ≡ blocksSize → k < 8 → allOf sized ps ≡ true → l ≡ blocks ps
+pub place-read : (l : List ℕ) (ps : List Place) (k : ℕ) → length l ≡ blocksSize → k < 8 → allOf hasAllSlots ps ≡ true → l ≡ blocks ps
     → part (512 * k) (512 * k + 512 - 512 * k) l ≡ placeWords (placeAt k ps)
 place-read l ps k long h s e = rw (e, add-sub-cancel-left (512 * k) 512) (place-part ps k s (omega (arith, held-places l ps s long e)))
 
@@ -118,7 +118,7 @@ pub behind-length : (d : Device) → length (behind d) ≡ 0
 unfolding behind
 behind-length d = refl
 
-module _ (d : Device) (s : allOf sized (d .places) ≡ true) (eight : length (d .places) ≡ 8) where
+module _ (d : Device) (s : allOf hasAllSlots (d .places) ≡ true) (eight : length (d .places) ≡ 8) where
   all-blocks : length (blocks (d .places)) ≡ blocksSize
   all-blocks = omega (arith, blocks-length (d .places) s)
 
@@ -139,14 +139,14 @@ module _ (d : Device) (s : allOf sized (d .places) ≡ true) (eight : length (d 
     unfolding encode
     block-part = rw e (part-front (blocks (d .places)) (behind d) (512 * k) 512 ends ∙ place-part (d .places) k s (omega arith))
 
-    block-put : (p : Place) → put (512 * k) 512 l (placeWords p) ≡ encode (withPlaces (set (d .places) k p) d)
+    block-put : (p : Place) → withPart (512 * k) 512 l (placeWords p) ≡ encode (withPlaces (set (d .places) k p) d)
     unfolding encode behind
     block-put p =
-        rw e (put-front (blocks (d .places)) (behind d) (512 * k) 512 ends (placeWords p)
+        rw e (withPart-front (blocks (d .places)) (behind d) (512 * k) 512 ends (placeWords p)
         ∙ ap (λ (w : List ℕ). w ++ behind d) (place-put (d .places) k s (omega arith) p))
 
     pub block-lent : (ys : List ℕ) (p : Place) → (part (512 * k) (512 * k + 512 - 512 * k) l ≡ placeWords (placeAt k (d .places)) → ys ≡ placeWords p)
-        → put (512 * k) (512 * k + 512 - 512 * k) l ys ≡ encode (withPlaces (set (d .places) k p) d)
+        → withPart (512 * k) (512 * k + 512 - 512 * k) l ys ≡ encode (withPlaces (set (d .places) k p) d)
     block-lent ys p =
         lent (512 * k) (512 * k + 512) 512 l (placeWords (placeAt k (d .places))) (placeWords p) (encode (withPlaces (set (d .places) k p) d)) ys
         (add-sub-cancel-left (512 * k) 512) block-part (block-put p)
@@ -161,7 +161,7 @@ drain-back (some t) z r = refl
 none-live : (n : ℕ) → 0 < n → eqb (getD (zeros n) 0 0) 1 ≡ false
 none-live n h = rw (zero-at n 0 h)
 
-pub decode-place : (p : Place) → sized p ≡ true → decodePlace (placeWords p) ≡ p
+pub decode-place : (p : Place) → hasAllSlots p ≡ true → decodePlace (placeWords p) ≡ p
 unfolding decodePlace placeWords headWords
 decode-place vacant h = rw (none-live 512 (omega arith))
 decode-place (occupied n b) h = λ i. occupied n (record {
@@ -171,10 +171,10 @@ decode-place (occupied n b) h = λ i. occupied n (record {
   outputs = (ap decodeQueue (queue-part n b h output) ∙ decode-queue (b .outputs) (sized-queue output n b h)) i;
 })
 
-pub decode-places : (ps : List Place) → allOf sized ps ≡ true → length ps ≡ 8 → placesIn (blocks ps) ≡ ps
+pub decode-places : (ps : List Place) → allOf hasAllSlots ps ≡ true → length ps ≡ 8 → placesIn (blocks ps) ≡ ps
 unfolding placesIn blocks
-decode-places ps s eight = rw eight at (pieces-read placeWords 512 sized place-length decodePlace decode-place ps s)
+decode-places ps s eight = rw eight at (pieces-read placeWords 512 hasAllSlots place-length decodePlace decode-place ps s)
 
-pub decode-device : (d : Device) → allOf sized (d .places) ≡ true → length (d .places) ≡ 8 → decode (encode d) ≡ d
+pub decode-device : (d : Device) → allOf hasAllSlots (d .places) ≡ true → length (d .places) ≡ 8 → decode (encode d) ≡ d
 unfolding decode
 decode-device d s eight = λ i. record { places = (ap placesIn (blocks-front d s eight) ∙ decode-places (d .places) s eight) i }

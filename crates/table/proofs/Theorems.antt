@@ -28,10 +28,10 @@ use Rattle.model.proofs.WellFormed.{well-fresh, well-places}
 use Rattle.model.proofs.Tables.{on-tables, fresh-short, fresh-long, no-mark-in-tables}
 use Rattle.model.proofs.Refusals.{only-listed, no-table-refusal}
 use Rattle.model.proofs.Unchanged.{refusal-changes-nothing, error-changes-nothing, keeps-rest, stays-valid, writes-at-most}
-use Rattle.words.specs.Words.{slotWords, flagWord, queueWords}
+use Rattle.queue.specs.Words.{slotWords, flagWord, queueWords}
 use Rattle.table.specs.Blocks.{drainWords, headWords, placeWords, blocks, behind, encode, decode, layout}
-use Rattle.table.specs.Search.{sized}
-use Rattle.table.specs.Promises.{MeetsLaws, ValidExactly, Narrow, FreshIsZero, ConditionThree, Promised}
+use Rattle.table.specs.Search.{hasAllSlots}
+use Rattle.table.specs.Promises.{MeetsLaws, ValidExactly, Narrow, FreshIsZero, ConditionThree, TablePromises}
 use Rattle.table.proofs.Records.{used-length, decode-device}
 
 -- The two laws
@@ -53,15 +53,15 @@ module _ (n : ℕ) (b : Stream) (h : goodPlace (occupied n b) ≡ true) where
   good-outputs : goodQueue (b .outputs) ≡ true
   good-outputs = and-right (goodQueue (b .inputs)) _ good-queues
 
-pub good-sized : (p : Place) → goodPlace p ≡ true → sized p ≡ true
+pub good-sized : (p : Place) → goodPlace p ≡ true → hasAllSlots p ≡ true
 good-sized vacant h = refl
 good-sized (occupied n b) h =
     both (and-left (eqb (length (b .inputs .slots)) 16) _ (and-left (goodSlots (b .inputs .slots)) _ (good-inputs n b h)))
     (and-left (eqb (length (b .outputs .slots)) 16) _ (and-left (goodSlots (b .outputs .slots)) _ (good-outputs n b h)))
 
 module _ (d : Device) (h : wellFormed d ≡ true) where
-  pub well-sized : allOf sized (d .places) ≡ true
-  well-sized = all-implied goodPlace sized good-sized (d .places) ((well-places d h) .each)
+  pub well-sized : allOf hasAllSlots (d .places) ≡ true
+  well-sized = all-implied goodPlace hasAllSlots good-sized (d .places) ((well-places d h) .each)
 
   pub well-eight : length (d .places) ≡ 8
   well-eight = (well-places d h) .size
@@ -199,8 +199,8 @@ zero-is-fresh = ap decode (sym fresh-is-zero) ∙ meets-laws .back fresh well-fr
 pub condition-three : ConditionThree
 condition-three = on-tables layout meets-laws
 
-pub promised : Promised
-promised =
+pub table-promises : TablePromises
+table-promises =
     record {
       freshShort = fresh-short layout;
       freshLong = fresh-long layout meets-laws;

@@ -9,9 +9,9 @@ use Rattle.laws.specs.Parts.{part, zeros, pieces, readPieces}
 use Rattle.model.specs.Numbers.{streamPlaces}
 use Rattle.model.specs.Device.{QueueType, input, output, Place, vacant, occupied, Device}
 use Rattle.model.specs.Tables.{Layout}
-use Rattle.words.specs.Words.{queueSize, queueWords, decodeQueue}
+use Rattle.queue.specs.Words.{queueSize, queueWords, decodeQueue}
 
--- a place is a block of 512 words: live (0 or 1), number, coded format, drain owed (0 or 1), drain ticket, three words without use, the
+-- a place is a block of 512 words: live (0 or 1), number, coded format, drain pending (0 or 1), drain ticket, three words without use, the
 -- input queue from 8, the output queue from 92, and from 176 words without use; words without use are zero, and so is a vacant place
 abbrev pub placeSize : ℕ
 placeSize = 512
@@ -25,7 +25,7 @@ queueStart output = 92
 abbrev pub spareSize : ℕ
 spareSize = 336
 
--- the words of a drain owed or not: 1 and its ticket, or zeros
+-- the words of a drain pending or not: 1 and its ticket, or zeros
 abbrev pub drainWords : Option ℕ → List ℕ
 drainWords none = 0 ∷ 0 ∷ []
 drainWords (some t) = 1 ∷ t ∷ []
@@ -57,9 +57,9 @@ encode d = blocks (d .places) ++ behind d
 
 -- The records that words stand for
 
--- the ticket of an owed drain, from its two words
+-- the ticket of a pending drain, from its two words
 abbrev pub drainIn : ℕ → ℕ → Option ℕ
-drainIn owed ticket = cond (eqb owed 1) (some ticket) none
+drainIn mark ticket = cond (eqb mark 1) (some ticket) none
 
 -- the place that 512 words stand for
 unfoldable pub decodePlace : List ℕ → Place

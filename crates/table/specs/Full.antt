@@ -19,7 +19,7 @@ fullSlots (suc n) = resource n (queued 0xFFFFFFFF 0xFFFFFFFFFFFFFFFF) ∷ fullSl
 abbrev pub fullQueue : Queue
 fullQueue = record { width = 4096; height = 16; rate = 0xFFFFFFFF; clearing = true; slots = fullSlots queueSlots }
 
--- streams n - 1, .., 0, each with a drain owed
+-- streams n - 1, .., 0, each with a drain pending
 abbrev pub fullPlaces : ℕ → List Place
 fullPlaces zero = []
 fullPlaces (suc n) = occupied n (record { format = 0x1005; draining = some 0xFFFFFFFF; inputs = fullQueue; outputs = fullQueue }) ∷ fullPlaces n

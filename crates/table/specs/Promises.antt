@@ -40,7 +40,7 @@ abbrev pub ConditionThree : Type 0
 ConditionThree = OnTables layout
 
 -- the promises of model/specs/Promises over the tables of this device, with no layout left open
-pub record Promised : Type 0 where
+pub record TablePromises : Type 0 where
   -- a short table is not made fresh; any other is, and then stands for no stream
   pub freshShort : FreshShort layout
   pub freshLong : FreshLong layout

@@ -31,10 +31,10 @@ abbrev pub findVacant : List Place → Option ℕ
 findVacant ps = position isVacant ps
 
 -- a block starts with these two words: whether it is live, and the number
-unfoldable pub startsWith : ℕ → ℕ → List ℕ → Bool
-startsWith live number w = eqb (getD w 0 0) live && eqb (getD w 1 0) number
+unfoldable pub headIs : ℕ → ℕ → List ℕ → Bool
+headIs live number w = eqb (getD w 0 0) live && eqb (getD w 1 0) number
 
 -- both queues have their sixteen slots, so that the place's words are a block
-abbrev pub sized : Place → Bool
-sized vacant = true
-sized (occupied n b) = eqb (length (b .inputs .slots)) queueSlots && eqb (length (b .outputs .slots)) queueSlots
+abbrev pub hasAllSlots : Place → Bool
+hasAllSlots vacant = true
+hasAllSlots (occupied n b) = eqb (length (b .inputs .slots)) queueSlots && eqb (length (b .outputs .slots)) queueSlots

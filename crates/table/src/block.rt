@@ -5,16 +5,16 @@ ghost use Prim.Native.Nat.{ℕ, _≤_};
 ghost use lib.ListN.{length};
 ghost use Rattle.laws.specs.Parts.{zeros};
 ghost use Rattle.model.specs.Device.{Stream, vacant, occupied, newQueue, newStream, withDrain};
-ghost use Rattle.words.specs.Words.{queueWords};
+ghost use Rattle.queue.specs.Words.{queueWords};
 ghost use Rattle.table.specs.Blocks.{queueStart, placeWords};
-ghost use Rattle.protocol.specs.Queue.{queueTypeOf};
+ghost use Rattle.protocol.specs.QueueTypes.{queueTypeOf};
 ghost use Rattle.table.specs.Values.{drainOf};
-use crate::Drain;
+use crate::DrainState;
 use protocol::QueueType;
-use words::HEIGHT;
-use words::WIDTH;
+use queue::HEIGHT;
+use queue::WIDTH;
 
-// The words of a block: whether the stream is live, its number and coded format, whether a drain is owed and its ticket, three without use, the two queues.
+// The words of a block: whether the stream is live, its number and coded format, whether a drain is pending and its ticket, three without use, the two queues.
 pub const LIVE: usize = 0;
 
 pub const NUMBER: usize = 1;
@@ -40,7 +40,7 @@ const NEW_WIDTH: u32 = 640;
 const NEW_HEIGHT: u32 = 480;
 
 // Sets all words to zero.
-pub fn clear(s: &mut [u32])
+pub fn fill_zero(s: &mut [u32])
     ensures { λ _. ⌜ now (s .exit) ≡ zeros (length (now (s .entry))) ⌝ }
 {
     let mut i = 0;
@@ -76,7 +76,7 @@ pub fn free_stream(b: &mut [u32])
     requires { ⌜ length (now b) ≡ 512 ⌝ }
     ensures { λ _. ⌜ now (b .exit) ≡ placeWords vacant ⌝ }
 {
-    clear(b);
+    fill_zero(b);
 }
 
 // The coded format of the block's stream.
@@ -87,18 +87,18 @@ pub fn coded_format(b: &[u32]) -> u32
     b[FORMAT]
 }
 
-// The drain that the block's stream owes.
-pub fn drain_owed(b: &[u32]) -> Drain
+// The pending drain of the block's stream.
+pub fn pending_drain(b: &[u32]) -> DrainState
     requires { ⌜ length (now b) ≡ 512 ⌝ }
     ensures { λ r. ⌜ ((n : ℕ) (s : Stream) → now (b .entry) ≡ placeWords (occupied n s) → drainOf r ≡ s .draining) ⌝ }
 {
     if b[DRAIN] == 0 {
-        return Drain::Settled;
+        return DrainState::Idle;
     }
-    Drain::Owed(b[TICKET])
+    DrainState::Draining(b[TICKET])
 }
 
-// The block's stream owes a drain with that ticket.
+// A drain of the block's stream is pending under that ticket.
 pub fn set_drain(b: &mut [u32], ticket: u32)
     requires { ⌜ length (now b) ≡ 512 ⌝ }
     ensures { λ _. ⌜ ((n : ℕ) (s : Stream) → now (b .entry) ≡ placeWords (occupied n s) → now (b .exit) ≡ placeWords (occupied n (withDrain (some ticket) s))) ⌝ }
@@ -107,7 +107,7 @@ pub fn set_drain(b: &mut [u32], ticket: u32)
     b[TICKET] = ticket;
 }
 
-// The block's stream owes no drain.
+// No drain of the block's stream is pending.
 pub fn drop_drain(b: &mut [u32])
     requires { ⌜ length (now b) ≡ 512 ⌝ }
     ensures { λ _. ⌜ ((n : ℕ) (s : Stream) → now (b .entry) ≡ placeWords (occupied n s) → now (b .exit) ≡ placeWords (occupied n (withDrain none s))) ⌝ }

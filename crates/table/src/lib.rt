@@ -16,12 +16,12 @@ pub use block::OUTPUTS;
 pub use block::QUEUES_END;
 pub use block::TICKET;
 pub use block::UNUSED;
-use block::clear;
 pub use block::coded_format;
-pub use block::drain_owed;
 pub use block::drop_drain;
+use block::fill_zero;
 pub use block::free_stream;
 pub use block::new_stream;
+pub use block::pending_drain;
 pub use block::queue_start;
 pub use block::set_drain;
 pub use search::find_stream;
@@ -37,10 +37,10 @@ pub const BLOCKS_WORDS: usize = 4096;
 // The used words of a table: the blocks, and the words behind them.
 pub const TABLE_WORDS: usize = 4096;
 
-// A drain that is owed, with its ticket, or none.
-pub enum Drain {
-    Owed(u32),
-    Settled,
+// A drain that is pending, with its ticket, or none.
+pub enum DrainState {
+    Draining(u32),
+    Idle,
 }
 
 // Makes the table fresh: 1 and nothing changed where it is too short, else 0 and the used words zero.
@@ -50,6 +50,6 @@ pub fn fresh(table: &mut [u32]) -> u32
     if table.len() < TABLE_WORDS {
         return SHORT_TABLE;
     }
-    clear(&mut table[0..TABLE_WORDS]);
+    fill_zero(&mut table[0..TABLE_WORDS]);
     0
 }

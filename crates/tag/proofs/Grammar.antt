@@ -10,12 +10,12 @@ use borrow.Author.Tests.{eqb-true, ltb-true}
 use lib.Dec.{T, eqb, ltb, leb, eqb→eq, leb→le}
 use lib.ListN.{length, getD, replicate}
 use Rattle.laws.specs.Tests.{within}
-use Rattle.laws.proofs.Table.{every, at}
+use Rattle.laws.proofs.Table.{every, every-at}
 use Rattle.laws.proofs.Lists.{decide}
 use Rattle.laws.proofs.Tests.{and-left, and-right, within-bounds}
 use Rattle.tag.specs.Utf8.{Row, rows, noRow, rowAt, tailLo, tailHi, begins, placeOf, classOf, utf8After, utf8}
 use Rattle.tag.specs.Grammar.{Tails, Characters, Classes, Decides}
-use Rattle.tag.specs.Grammar.Tails.{none, tail}
+use Rattle.tag.specs.Grammar.Tails.{noTails, tailThen}
 use Rattle.tag.specs.Grammar.Characters.{end, character}
 use Rattle.tag.proofs.Laws.{first-octet, tail-octet}
 
@@ -40,10 +40,10 @@ tests k x = every (test k) 0 (replicate 256 0)
 
 row-class : (k : ℕ) → k < 9 → T (every (test k) 0 (replicate 256 0))
 unfolding test tests classOf within
-row-class k h = at tests (replicate 9 0) tt k h
+row-class k h = every-at tests (replicate 9 0) tt k h
 
 row-top : (k : ℕ) → k < 9 → rowAt k .to ≤ 255
-row-top k h = leb→le (rowAt k .to) 255 (at (λ k x. leb (rowAt k .to) 255) (replicate 9 0) tt k h)
+row-top k h = leb→le (rowAt k .to) 255 (every-at (λ k x. leb (rowAt k .to) 255) (replicate 9 0) tt k h)
 
 class-in : (b k : ℕ) → k < 9 → classOf b ≡ k → begins b (rowAt k) ≡ true
 unfolding classOf
@@ -52,7 +52,7 @@ class-in b k h e = place-in b rows k e h
 class-is : (b k : ℕ) → k < 9 → begins b (rowAt k) ≡ true → classOf b ≡ k
 unfolding test
 class-is b k h e =
-    eqb→eq (classOf b) k (rw e at (at (test k) (replicate 256 0) (row-class k h) b (omega (arith, row-top k h, within-bounds b (rowAt k .from) (rowAt k .to) e .1))))
+    eqb→eq (classOf b) k (rw e at (every-at (test k) (replicate 256 0) (row-class k h) b (omega (arith, row-top k h, within-bounds b (rowAt k .from) (rowAt k .to) e .1))))
 
 class-none : (b k : ℕ) → k < 9 → classOf b ≡ 9 → begins b (rowAt k) ≡ false
 class-none b k h n = decide (begins b (rowAt k)) (λ e. absurd (omega (arith, class-is b k h e))) (λ e. e)
@@ -71,7 +71,7 @@ classes = record {
   of-none = λ b. (λ e k h. class-none b k h e, none-class b);
 }
 
--- where no tail is due, the range does not matter
+-- where no tail is missing, the range does not matter
 no-tail : (lo hi : ℕ) (s : List ℕ) → utf8After 0 lo hi s ≡ utf8 s
 unfolding utf8After utf8
 no-tail lo hi [] = refl
@@ -79,39 +79,39 @@ no-tail lo hi (b ∷ s) = refl
 
 -- tails are passed over
 over : {n lo hi : ℕ} {s rest : List ℕ} → Tails n lo hi s rest → utf8After n lo hi s ≡ utf8 rest
-over {lo = lo} {hi = hi} {s = s} none = no-tail lo hi s
-over (tail {n} {lo} {hi} {b} {s} e t) = tail-octet b s n lo hi e ∙ over t
+over {lo = lo} {hi = hi} {s = s} noTails = no-tail lo hi s
+over (tailThen {n} {lo} {hi} {b} {s} e t) = tail-octet b s n lo hi e ∙ over t
 
 complete : {s : List ℕ} → Characters s → utf8 s ≡ true
 unfolding utf8 utf8After
 complete end = refl
 complete (character {b} {s} k h e t c) = first-octet b s tailLo tailHi k (class-is b k h e) h ∙ over t ∙ complete c
 
--- what passes with n tails due is n tails and then characters
+-- what passes with n tails missing is n tails and then characters
 Rest : ℕ → ℕ → ℕ → List ℕ → Type 0
 Rest n lo hi s = (rest : List ℕ) × Tails n lo hi s rest × Characters rest
 
 from : (s : List ℕ) (n lo hi : ℕ) → utf8After n lo hi s ≡ true → Rest n lo hi s
 unfolding utf8After Rest
-from [] zero lo hi e = ([], none, end)
+from [] zero lo hi e = ([], noTails, end)
 from [] (suc n) lo hi e = absurd (let z = eqb-true (suc n) 0 e in omega arith)
 from (b ∷ s) zero lo hi e =
     let k : ℕ = classOf b in
     let later = utf8After (rowAt k .tails) (rowAt k .lo) (rowAt k .hi) s in
     let h : k < 9 = ltb-true k 9 (and-left (ltb k 9) later e) in
     let r = from s (rowAt k .tails) (rowAt k .lo) (rowAt k .hi) (and-right (ltb k 9) later e) in
-    (b ∷ s, none, character k h (class-in b k h refl) (r .1) (r .2))
+    (b ∷ s, noTails, character k h (class-in b k h refl) (r .1) (r .2))
 from (b ∷ s) (suc n) lo hi e =
     let later = utf8After n tailLo tailHi s in
     let r = from s n tailLo tailHi (and-right (within b lo hi) later e) in
-    (r .0, tail (and-left (within b lo hi) later e) (r .1), r .2)
+    (r .0, tailThen (and-left (within b lo hi) later e) (r .1), r .2)
 
 sound : (s : List ℕ) → utf8 s ≡ true → Characters s
 unfolding utf8 Rest
 sound s e = let r = from s 0 tailLo tailHi e in same (r .1) (r .2)
   where
     same : {rest : List ℕ} → Tails zero tailLo tailHi s rest → Characters rest → Characters s
-    same none c = c
+    same noTails c = c
 
 pub decides : Decides
 decides s = (sound s, complete)

@@ -9,8 +9,8 @@ use Rattle.tag.specs.Utf8.{tailLo, tailHi, rowAt, begins, classOf, utf8}
 
 -- n tails, the first within lo..hi and the others any tail, and then the rest
 pub data Tails : ℕ → ℕ → ℕ → List ℕ → List ℕ → Type 0 where
-  none : {lo hi : ℕ} {s : List ℕ} → Tails zero lo hi s s
-  tail : {n lo hi b : ℕ} {s rest : List ℕ} → within b lo hi ≡ true → Tails n tailLo tailHi s rest → Tails (suc n) lo hi (b ∷ s) rest
+  noTails : {lo hi : ℕ} {s : List ℕ} → Tails zero lo hi s s
+  tailThen : {n lo hi b : ℕ} {s rest : List ℕ} → within b lo hi ≡ true → Tails n tailLo tailHi s rest → Tails (suc n) lo hi (b ∷ s) rest
 
 -- characters: a first octet of one of the nine rows, the tails of that row, and so on
 pub data Characters : List ℕ → Type 0 where

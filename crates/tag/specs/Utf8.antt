@@ -58,7 +58,7 @@ placeOf b (r ∷ rs) = cond (begins b r) 0 (suc (placeOf b rs))
 unfoldable pub classOf : ℕ → ℕ
 classOf b = placeOf b rows
 
--- n tails are due, the next of them within lo..hi, and then whole characters
+-- n tails are missing, the next of them within lo..hi, and then whole characters
 unfoldable pub utf8After : ℕ → ℕ → ℕ → List ℕ → Bool
 utf8After n lo hi [] = eqb n 0
 utf8After zero lo hi (b ∷ bs) =

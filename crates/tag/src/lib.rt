@@ -101,18 +101,18 @@ fn nul_at(octets: &[u8]) -> usize
 fn is_utf8(octets: &[u8]) -> bool
     ensures { λ r. ⌜ r ≡ utf8 (now (octets .entry)) ⌝ }
 {
-    let mut due: u8 = 0;
+    let mut missing: u8 = 0;
     let mut lo = TAIL_LO;
     let mut hi = TAIL_HI;
     let mut i = 0;
     while i < octets.len() {
         let b = octets[i];
-        if due == 0 {
+        if missing == 0 {
             let class = class_of(b) as usize;
             if 9 <= class {
                 return false;
             }
-            due = TAILS[class];
+            missing = TAILS[class];
             lo = LOWS[class];
             hi = HIGHS[class];
         } else {
@@ -122,13 +122,13 @@ fn is_utf8(octets: &[u8]) -> bool
             if hi < b {
                 return false;
             }
-            due -= 1;
+            missing -= 1;
             lo = TAIL_LO;
             hi = TAIL_HI;
         }
         i += 1;
     }
-    due == 0
+    missing == 0
 }
 
 // The class of an octet.

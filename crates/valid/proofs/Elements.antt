@@ -17,17 +17,17 @@ use Rattle.laws.proofs.Lists.{decide, all-true}
 use Rattle.laws.proofs.Pieces.{pieces-length, read-length, read-at}
 use Rattle.laws.proofs.Distinct.{numbers-from, distinct-from, numbers-read}
 use Rattle.model.specs.Device.{created, queued, dequeued, Slot, free, resource, Queue, Place, vacant, occupied, slotNumber, placeNumber}
-use Rattle.words.specs.Words.{slotWords, queueWords}
-use Rattle.words.proofs.Records.{slot-length, held-slots}
+use Rattle.queue.specs.Words.{slotWords, queueWords}
+use Rattle.queue.proofs.Records.{slot-length, held-slots}
 use Rattle.table.specs.Blocks.{headWords, placeWords}
-use Rattle.table.specs.Search.{sized}
+use Rattle.table.specs.Search.{hasAllSlots}
 use Rattle.table.proofs.Records.{place-length}
 use Rattle.table.proofs.Heads.{vacant-word}
 use Rattle.valid.specs.Rules.{wordsNumber, numbersFrom, Apart, Told}
 
 -- an element lies within the words
-pub inside : (step count i : ℕ) → i < count → step * i + step ≤ step * count
-inside step count i h = omega (arith, mul-suc step i, mul-le-mul-left step h)
+pub element-inside : (step count i : ℕ) → i < count → step * i + step ≤ step * count
+element-inside step count i h = omega (arith, mul-suc step i, mul-le-mul-left step h)
 
 -- Element by element
 
@@ -133,8 +133,8 @@ unfolding placeWords headWords
 place-number vacant = rw (vacant-word refl)
 place-number (occupied n b) = refl
 
-pub places-numbers : (l : List ℕ) (d : List Place) → allOf sized d ≡ true → length d ≡ 8 → l ≡ pieces placeWords d → numbersFrom 0 512 8 l ≡ numbersIn placeNumber d
+pub places-numbers : (l : List ℕ) (d : List Place) → allOf hasAllSlots d ≡ true → length d ≡ 8 → l ≡ pieces placeWords d → numbersFrom 0 512 8 l ≡ numbersIn placeNumber d
 unfolding numbersFrom
 places-numbers l d s eight e =
     ap (λ (w : List ℕ). numbersIn wordsNumber (readPieces (λ x. x) 512 8 w)) e
-    ∙ rw eight at (numbers-read placeNumber placeWords wordsNumber 512 sized place-length place-number d s)
+    ∙ rw eight at (numbers-read placeNumber placeWords wordsNumber 512 hasAllSlots place-length place-number d s)

@@ -16,9 +16,9 @@ use Rattle.model.specs.Numbers.{firstCoded, lastCoded}
 use Rattle.model.specs.Device.{input, output, created, queued, dequeued, Slot, free, resource, Queue, Stream, occupied}
 use Rattle.model.specs.Commands.{goodExtent}
 use Rattle.model.specs.WellFormed.{u32, u64, goodSlot, distinctSlots, goodQueue, goodDrain, goodPlace}
-use Rattle.words.specs.Words.{slotWords, flagWord, queueWords}
+use Rattle.queue.specs.Words.{slotWords, flagWord, queueWords}
 use Rattle.table.specs.Blocks.{drainWords, headWords, placeWords}
-use Rattle.table.specs.Search.{sized}
+use Rattle.table.specs.Search.{hasAllSlots}
 use Rattle.table.proofs.Records.{sized-queue}
 
 -- each word of a lent slice is below 2^32
@@ -35,13 +35,13 @@ module _ (a b : List ℕ) (h : allOf u32 (a ++ b) ≡ true) where
   back : allOf u32 b ≡ true
   back = and-right (allOf u32 a) _ (sym (all-append u32 a b) ∙ h)
 
-below : (v : ℕ) → u32 v ≡ true → v < 2 ^ 32
+word-below : (v : ℕ) → u32 v ≡ true → v < 2 ^ 32
 unfolding u32
-below v h = ltb-true v (2 ^ 32) h
+word-below v h = ltb-true v (2 ^ 32) h
 
 whole : (v : ℕ) → u32 (v / 2 ^ 32) ≡ true → u64 v ≡ true
 unfolding u64
-whole v h = let high = below (v / 2 ^ 32) h in lt-ltb v (2 ^ 64) (omega arith)
+whole v h = let high = word-below (v / 2 ^ 32) h in lt-ltb v (2 ^ 64) (omega arith)
 
 wide-slot : (s : Slot) → allOf u32 (slotWords s) ≡ true → goodSlot s ≡ true
 wide-slot free h = refl
@@ -84,7 +84,7 @@ wide-drain : (d : Option ℕ) → allOf u32 (drainWords d ++ zeros 3) ≡ true �
 wide-drain none h = refl
 wide-drain (some t) h = and-left (u32 t) _ (and-right (u32 1) _ h)
 
-pub wide-place : (n : ℕ) (b : Stream) → sized (occupied n b) ≡ true → allOf u32 (placeWords (occupied n b)) ≡ true
+pub wide-place : (n : ℕ) (b : Stream) → hasAllSlots (occupied n b) ≡ true → allOf u32 (placeWords (occupied n b)) ≡ true
     → goodPlace (occupied n b) ≡ within (b .format) firstCoded lastCoded && (queueRules (b .inputs) && queueRules (b .outputs))
 unfolding placeWords headWords
 wide-place n b s h =

@@ -11,43 +11,43 @@ use borrow.Author.Tests.{eq-eqb, ne-eqb}
 use Rattle.laws.specs.Lists.{allOf, same, distinct}
 use Rattle.laws.specs.Tests.{allBelow}
 use Rattle.laws.specs.Parts.{part, zeros}
-use Rattle.laws.proofs.Tests.{all-ext, all-both}
-use Rattle.laws.proofs.Lists.{cond-elim, eqb-refl, no-element}
+use Rattle.laws.proofs.Tests.{all-ext, below-both}
+use Rattle.laws.proofs.Lists.{cond-elim, eqb-same, no-element}
 use Rattle.laws.proofs.Same.{same-eq, same-true, same-cut}
 use Rattle.laws.proofs.Pieces.{same-pieces, read-length, read-at, all-places, all-read, pieces-again}
 use Rattle.model.specs.Numbers.{tableWords}
 use Rattle.model.specs.Device.{QueueType, input, output, Stream, Place, vacant, Device, queueOf}
 use Rattle.model.specs.WellFormed.{goodPlace, distinctPlaces, goodPlaces, wellFormed}
 use Rattle.model.specs.Tables.{valid}
-use Rattle.words.specs.Words.{queueWords, decodeQueue}
-use Rattle.words.proofs.Records.{queue-length, decoded-slots}
+use Rattle.queue.specs.Words.{queueWords, decodeQueue}
+use Rattle.queue.proofs.Records.{queue-length, decoded-slots}
 use Rattle.table.specs.Blocks.{drainIn, headWords, placeWords, blocks, blocksSize, behind, encode, decodePlace, placesIn, decode, layout}
-use Rattle.table.specs.Search.{placeAt, sized}
+use Rattle.table.specs.Search.{placeAt, hasAllSlots}
 use Rattle.valid.specs.Rules.{headStands, placeStands, placeValid, numbersFrom, blocksValid}
 use Rattle.table.proofs.Records.{head-length, queue-sized, place-length, blocks-length}
 use Rattle.valid.proofs.Elements.{places-numbers}
 
 -- What is decoded has its sizes
 
-abbrev streamOf : List ℕ → Stream
-streamOf w = record {
+abbrev streamRead : List ℕ → Stream
+streamRead w = record {
   format = getD w 2 0;
   draining = drainIn (getD w 3 0) (getD w 4 0);
   inputs = decodeQueue (part 8 84 w);
   outputs = decodeQueue (part 92 84 w);
 }
 
-sixteen : (w : List ℕ) (q : QueueType) → length (queueOf q (streamOf w) .slots) ≡ 16
+sixteen : (w : List ℕ) (q : QueueType) → length (queueOf q (streamRead w) .slots) ≡ 16
 sixteen w input = decoded-slots (part 8 84 w)
 sixteen w output = decoded-slots (part 92 84 w)
 
-pub decoded-sized : (w : List ℕ) → sized (decodePlace w) ≡ true
+pub decoded-sized : (w : List ℕ) → hasAllSlots (decodePlace w) ≡ true
 unfolding decodePlace
-decoded-sized w = cond-elim (λ (p : Place). sized p ≡ true) (eqb (getD w 0 0) 1) (λ _. queue-sized (getD w 1 0) (streamOf w) (sixteen w)) (λ _. refl)
+decoded-sized w = cond-elim (λ (p : Place). hasAllSlots p ≡ true) (eqb (getD w 0 0) 1) (λ _. queue-sized (getD w 1 0) (streamRead w) (sixteen w)) (λ _. refl)
 
-decode-sized : (w : List ℕ) → allOf sized (placesIn w) ≡ true
+decode-sized : (w : List ℕ) → allOf hasAllSlots (placesIn w) ≡ true
 unfolding placesIn
-decode-sized w = all-read decodePlace sized 512 decoded-sized 8 w
+decode-sized w = all-read decodePlace hasAllSlots 512 decoded-sized 8 w
 
 decode-eight : (w : List ℕ) → length (placesIn w) ≡ 8
 unfolding placesIn
@@ -68,32 +68,32 @@ unfolding decodePlace placeWords
 stands-vacant b h = rw (ne-eqb (getD b 0 0) 1 h)
 
 module _ (b : List ℕ) (long : length b ≡ 512) (live : getD b 0 0 ≡ 1) where
-  abbrev queue : ℕ → List ℕ
-  queue a = queueWords (decodeQueue (part a 84 b))
+  abbrev queueRead : ℕ → List ℕ
+  queueRead a = queueWords (decodeQueue (part a 84 b))
 
   abbrev queueStands : ℕ → Bool
-  queueStands a = same (part a 84 b) (queue a)
+  queueStands a = same (part a 84 b) (queueRead a)
 
-  queue-84 : (a : ℕ) → length (queue a) ≡ 84
+  queue-84 : (a : ℕ) → length (queueRead a) ≡ 84
   queue-84 a = queue-length (decodeQueue (part a 84 b)) (decoded-slots (part a 84 b))
 
-  abbrev head : List ℕ
-  head = headWords (getD b 1 0) (getD b 2 0) (drainIn (getD b 3 0) (getD b 4 0))
+  abbrev headOf : List ℕ
+  headOf = headWords (getD b 1 0) (getD b 2 0) (drainIn (getD b 3 0) (getD b 4 0))
 
-  word : (i : ℕ) → i < 8 → getD b i 0 ≡ getD (take 8 b) i 0
-  word i l = sym (getD-take 8 b i 0 l)
+  word-at : (i : ℕ) → i < 8 → getD b i 0 ≡ getD (take 8 b) i 0
+  word-at i l = sym (getD-take 8 b i 0 l)
 
-  cut8 : same b (head ++ (queue 8 ++ (queue 92 ++ zeros 336))) ≡ headStands (take 8 b) && same (drop 8 b) (queue 8 ++ (queue 92 ++ zeros 336))
+  cut8 : same b (headOf ++ (queueRead 8 ++ (queueRead 92 ++ zeros 336))) ≡ headStands (take 8 b) && same (drop 8 b) (queueRead 8 ++ (queueRead 92 ++ zeros 336))
   cut8 =
-      same-cut b head (queue 8 ++ (queue 92 ++ zeros 336)) 8 (omega arith) (head-length (getD b 1 0) (getD b 2 0) (drainIn (getD b 3 0) (getD b 4 0)))
-      ∙ rw (word 1 (lit< tt), word 2 (lit< tt), word 3 (lit< tt), word 4 (lit< tt))
+      same-cut b headOf (queueRead 8 ++ (queueRead 92 ++ zeros 336)) 8 (omega arith) (head-length (getD b 1 0) (getD b 2 0) (drainIn (getD b 3 0) (getD b 4 0)))
+      ∙ rw (word-at 1 (lit< tt), word-at 2 (lit< tt), word-at 3 (lit< tt), word-at 4 (lit< tt))
 
-  cut92 : same (drop 8 b) (queue 8 ++ (queue 92 ++ zeros 336)) ≡ queueStands 8 && same (drop 92 b) (queue 92 ++ zeros 336)
-  cut92 = same-cut (drop 8 b) (queue 8) (queue 92 ++ zeros 336) 84 (rw length-drop (omega arith)) (queue-84 8) ∙ rw (drop-drop 84 8 b)
+  cut92 : same (drop 8 b) (queueRead 8 ++ (queueRead 92 ++ zeros 336)) ≡ queueStands 8 && same (drop 92 b) (queueRead 92 ++ zeros 336)
+  cut92 = same-cut (drop 8 b) (queueRead 8) (queueRead 92 ++ zeros 336) 84 (rw length-drop (omega arith)) (queue-84 8) ∙ rw (drop-drop 84 8 b)
 
-  cut176 : same (drop 92 b) (queue 92 ++ zeros 336) ≡ queueStands 92 && same (part 176 336 b) (zeros 336)
+  cut176 : same (drop 92 b) (queueRead 92 ++ zeros 336) ≡ queueStands 92 && same (part 176 336 b) (zeros 336)
   cut176 =
-      same-cut (drop 92 b) (queue 92) (zeros 336) 84 (rw length-drop (omega arith)) (queue-84 92)
+      same-cut (drop 92 b) (queueRead 92) (zeros 336) 84 (rw length-drop (omega arith)) (queue-84 92)
       ∙ rw (drop-drop 84 92 b, take-all 336 (drop 176 b) (rw length-drop (omega arith)))
 
   pub stands-live : placeStands b ≡ headStands (take 8 b) && (queueStands 8 && (queueStands 92 && same (part 176 336 b) (zeros 336)))
@@ -117,23 +117,23 @@ eight P g (a ∷ n ∷ f ∷ o ∷ t ∷ x ∷ y ∷ z ∷ []) e = g a n f o t x
 eight P g (a ∷ n ∷ f ∷ o ∷ t ∷ x ∷ y ∷ z ∷ w ∷ r) e = absurd (omega arith)
 
 module _ (h : List ℕ) (long : length h ≡ 8) where
-  pub head-settled : getD h 0 0 ≡ 1 → getD h 3 0 ≡ 0 → same (part 4 4 h) (zeros (length (part 4 4 h))) ≡ headStands h
+  pub head-idle : getD h 0 0 ≡ 1 → getD h 3 0 ≡ 0 → same (part 4 4 h) (zeros (length (part 4 4 h))) ≡ headStands h
   unfolding same headWords zeros
-  head-settled =
+  head-idle =
       eight (λ x. getD x 0 0 ≡ 1 → getD x 3 0 ≡ 0 → same (part 4 4 x) (zeros (length (part 4 4 x))) ≡ headStands x)
-      (λ a n f o t x y z one e. rw (one, e, eqb-refl n, eqb-refl f, eq-eqb o 0 e)) h long
+      (λ a n f o t x y z one e. rw (one, e, eqb-same n, eqb-same f, eq-eqb o 0 e)) h long
 
-  pub head-owed : getD h 0 0 ≡ 1 → getD h 3 0 ≡ 1 → same (part 5 3 h) (zeros (length (part 5 3 h))) ≡ headStands h
+  pub head-draining : getD h 0 0 ≡ 1 → getD h 3 0 ≡ 1 → same (part 5 3 h) (zeros (length (part 5 3 h))) ≡ headStands h
   unfolding same headWords zeros
-  head-owed =
+  head-draining =
       eight (λ x. getD x 0 0 ≡ 1 → getD x 3 0 ≡ 1 → same (part 5 3 x) (zeros (length (part 5 3 x))) ≡ headStands x)
-      (λ a n f o t x y z one e. rw (one, e, eqb-refl n, eqb-refl f, eqb-refl t, eq-eqb o 1 e)) h long
+      (λ a n f o t x y z one e. rw (one, e, eqb-same n, eqb-same f, eqb-same t, eq-eqb o 1 e)) h long
 
   pub head-other : getD h 0 0 ≡ 1 → (getD h 3 0 ≡ 0 → ⊥) → (getD h 3 0 ≡ 1 → ⊥) → false ≡ headStands h
   unfolding same headWords zeros
   head-other =
       eight (λ x. getD x 0 0 ≡ 1 → (getD x 3 0 ≡ 0 → ⊥) → (getD x 3 0 ≡ 1 → ⊥) → false ≡ headStands x)
-      (λ a n f o t x y z one e d. rw (one, ne-eqb o 1 d, ne-eqb o 0 e, eqb-refl n, eqb-refl f)) h long
+      (λ a n f o t x y z one e d. rw (one, ne-eqb o 1 d, ne-eqb o 0 e, eqb-same n, eqb-same f)) h long
 
 -- The whole test of eight blocks: each is that of a place that keeps the rules, and no number stands twice
 
@@ -158,7 +158,7 @@ blocks-test t long =
     rw (eq-eqb (length (placesIn t)) 8 (decode-eight t), stands-test t long, good-test t)
     (turned (allBelow 8 stands) (allBelow 8 good) (distinctPlaces (placesIn t)) (distinct (numbersFrom 0 512 8 t))
     (λ e. ap distinct (sym (places-numbers t (placesIn t) (decode-sized t) (decode-eight t) (same-true _ _ (stands-test t long ∙ e)))))
-    ∙ ap (λ (b : Bool). b && distinct (numbersFrom 0 512 8 t)) (sym (all-both stands good 8)))
+    ∙ ap (λ (b : Bool). b && distinct (numbersFrom 0 512 8 t)) (sym (below-both stands good 8)))
 
 -- The used words: the blocks, and behind them no word
 

@@ -17,8 +17,8 @@ use Rattle.laws.proofs.Parts.{part-after}
 use Rattle.laws.proofs.Same.{same-eq, same-ne}
 use Rattle.laws.proofs.Pieces.{same-pieces}
 use Rattle.model.specs.Device.{created, queued, dequeued, Slot, free, resource}
-use Rattle.words.specs.Words.{slotWords, flagWord, queueWords, decodeSlot, decodeQueue}
-use Rattle.words.proofs.Records.{slot-length}
+use Rattle.queue.specs.Words.{slotWords, flagWord, queueWords, decodeSlot, decodeQueue}
+use Rattle.queue.proofs.Records.{slot-length}
 
 abbrev pub slotStands : List ℕ → Bool
 slotStands w = same w (slotWords (decodeSlot w))

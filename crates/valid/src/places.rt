@@ -10,7 +10,7 @@ ghost use Rattle.model.specs.Device.{Place};
 ghost use Rattle.model.specs.WellFormed.{goodPlace};
 ghost use Rattle.model.specs.Tables as tables;
 ghost use Rattle.table.specs.Blocks.{placeWords, blocksSize, layout};
-ghost use Rattle.table.specs.Search.{sized};
+ghost use Rattle.table.specs.Search.{hasAllSlots};
 ghost use Rattle.valid.specs.Rules.{headStands, placeStands, placeValid, blocksValid};
 use crate::numbers::numbers_distinct;
 use crate::queues::all_zero;
@@ -34,11 +34,11 @@ fn head_stands(h: &[u32]) -> bool
     requires { ⌜ (length (now h) ≡ 8) × (getD (now h) 0 0 ≡ 1) ⌝ }
     ensures { λ r. ⌜ r ≡ headStands (now (h .entry)) ⌝ }
 {
-    let owed = h[DRAIN];
-    if owed == 0 {
+    let drain = h[DRAIN];
+    if drain == 0 {
         return all_zero(&h[TICKET..INPUTS]);
     }
-    if owed == 1 {
+    if drain == 1 {
         return all_zero(&h[UNUSED..INPUTS]);
     }
     false
@@ -67,7 +67,7 @@ fn place_stands(b: &[u32]) -> bool
 // Whether a block's stream keeps the rules.
 fn place_well(b: &[u32]) -> bool
     requires { ⌜ length (now b) ≡ 512 ⌝ }
-    ensures { λ r. ⌜ ((p : Place) → sized p ≡ true → now (b .entry) ≡ placeWords p → r ≡ goodPlace p) ⌝ }
+    ensures { λ r. ⌜ ((p : Place) → hasAllSlots p ≡ true → now (b .entry) ≡ placeWords p → r ≡ goodPlace p) ⌝ }
 {
     if b[LIVE] == 0 {
         return true;

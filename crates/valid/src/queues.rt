@@ -7,22 +7,22 @@ ghost use Rattle.laws.specs.Parts.{zeros};
 ghost use Rattle.model.specs.Device.{Queue};
 ghost use Rattle.model.specs.Commands.{goodExtent};
 ghost use Rattle.model.specs.WellFormed.{distinctSlots};
-ghost use Rattle.words.specs.Words.{slotWords, queueWords, decodeSlot, decodeQueue};
+ghost use Rattle.queue.specs.Words.{slotWords, queueWords, decodeSlot, decodeQueue};
 use crate::numbers::numbers_distinct;
 use protocol::extent_good;
-use words::DEQUEUED;
-use words::FIRST_SLOT;
-use words::FREE;
-use words::HEIGHT;
-use words::MARK;
-use words::QUEUE_WORDS;
-use words::QUEUED;
-use words::SLOT_NUMBER;
-use words::SLOT_SIZE;
-use words::SLOT_STATE;
-use words::SLOT_TICKET;
-use words::SLOTS;
-use words::WIDTH;
+use queue::DEQUEUED;
+use queue::FIRST_SLOT;
+use queue::FREE;
+use queue::HEIGHT;
+use queue::MARK;
+use queue::QUEUE_WORDS;
+use queue::QUEUED;
+use queue::SLOT_NUMBER;
+use queue::SLOT_SIZE;
+use queue::SLOT_STATE;
+use queue::SLOT_TICKET;
+use queue::SLOTS;
+use queue::WIDTH;
 
 // Whether all words are zero. It never stops early, so that the compiler takes several words at once.
 pub fn all_zero(s: &[u32]) -> bool

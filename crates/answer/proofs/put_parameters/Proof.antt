@@ -7,7 +7,7 @@ use Rattle.laws.proofs.Stores.{wrote-sets}
 use Rattle.model.specs.Device.{queueOf}
 use Rattle.model.specs.Answers.{parameters, bytesOf}
 use Rattle.model.specs.Commands.{planes, parameterWords}
-use Rattle.protocol.specs.Queue.{queueTypeOf}
+use Rattle.protocol.specs.QueueTypes.{queueTypeOf}
 use Rattle.answer.proofs.Laws.{sets-groups, parameters-length, parameters-answer}
 use Rattle.answer.specs.Answer.{answerTo}
 use borrow.Author.Needs.{needs}

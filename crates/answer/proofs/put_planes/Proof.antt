@@ -6,8 +6,8 @@ use native.Mathlib.Omega.{arith}
 use native.Mathlib.Nat.{mul-le-mul}
 use lib.Seq.{sets}
 use denote.Ref.{now}
-use Rattle.model.specs.Answers.{words}
-use Rattle.protocol.specs.Queue.{queueTypeOf}
+use Rattle.model.specs.Answers.{wordBytes}
+use Rattle.protocol.specs.QueueTypes.{queueTypeOf}
 use Rattle.answer.proofs.Laws.{sets-words, input-planes, output-planes}
 use Rattle.answer.specs.Answer.{pairs}
 use borrow.Author.Needs.{needs}
@@ -56,7 +56,7 @@ returns c Q w h =
     let size : ℕ = a .width * a .height in
     sets-words (now (a .out)) (a .at) 16 (a .width ∷ a .height ∷ a .rate ∷ 2 ∷ []) (pairs size (a .width) (size / 2) (a .width)) refl
     (after-put-words .put-words .ensures) (after-put-pairs .put-pairs .ensures)
-    ∙ ap (λ (l : List ℕ). sets (now (a .out)) (a .at) (words (a .width ∷ a .height ∷ a .rate ∷ l))) (output-planes Q (ap queueTypeOf (after-enum-told2 .enum-told2 .given .1)) w h)
+    ∙ ap (λ (l : List ℕ). sets (now (a .out)) (a .at) (wordBytes (a .width ∷ a .height ∷ a .rate ∷ l))) (output-planes Q (ap queueTypeOf (after-enum-told2 .enum-told2 .given .1)) w h)
 
 -- src/lib.rt:89:5
 put-words-requires-2 : tie.Need-put-words-requires-2
@@ -81,7 +81,7 @@ returns-2 c Q w h =
     let after-enum-told = after-put-words2 .before .before in let start = after-enum-told .before .before .before in
     let a = start .args in
     sets-words (now (a .out)) (a .at) 16 (a .width ∷ a .height ∷ a .rate ∷ 1 ∷ []) (pairs 262144 0 0 0) refl (after-put-words2 .put-words2 .ensures) (after-put-pairs2 .put-pairs2 .ensures)
-    ∙ ap (λ (l : List ℕ). sets (now (a .out)) (a .at) (words (a .width ∷ a .height ∷ a .rate ∷ l))) (input-planes Q (ap queueTypeOf (after-enum-told .enum-told .given .1)))
+    ∙ ap (λ (l : List ℕ). sets (now (a .out)) (a .at) (wordBytes (a .width ∷ a .height ∷ a .rate ∷ l))) (input-planes Q (ap queueTypeOf (after-enum-told .enum-told .given .1)))
 
 pub put-planes-spec : {M : Type 1} → statement M
 put-planes-spec =

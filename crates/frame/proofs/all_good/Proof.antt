@@ -5,10 +5,10 @@ use Prim.Native.Nat.{ℕ, _+_, _*_, _≤_}
 use native.Mathlib.Omega.{arith}
 use denote.Ref.{now}
 use lib.ListN.{drop, length, length-drop, length-take}
-use Rattle.laws.proofs.Stores.{rest}
+use Rattle.laws.proofs.Stores.{rest-part}
 use Rattle.model.specs.Commands.{badEntry}
 use Rattle.frame.specs.Frame.{goodEntry}
-use Rattle.laws.proofs.Tests.{passed, refused}
+use Rattle.laws.proofs.Tests.{was-true, was-false}
 use Rattle.frame.proofs.Laws.{bad-here, bad-later}
 use Rattle.frame.proofs.all_good.Statement.{statement}
 use Rattle.frame.proofs.all_good.Tie as tie
@@ -37,7 +37,7 @@ entry-good-requires c κs = simp (length-take, length-drop) (omega arith)
 returns : tie.Need-returns Inv-loop μ-loop
 returns c = let l = c .before .before .before .before in
     let es = now (l .before .before .args .entries) in
-    sym (ap not (l .loop .inv .1 ∙ bad-here es (l .loop .at) (l .loop .left) (omega arith) (refused (c .before .entry-good .ensures ∙ ap goodEntry (rest (l .loop .at) es)) (c .if1 .taken))))
+    sym (ap not (l .loop .inv .1 ∙ bad-here es (l .loop .at) (l .loop .left) (omega arith) (was-false (c .before .entry-good .ensures ∙ ap goodEntry (rest-part (l .loop .at) es)) (c .if1 .taken))))
 
 add-at : tie.Need-add-at Inv-loop μ-loop
 add-at c = omega arith
@@ -51,7 +51,7 @@ loop-less c = omega arith
 loop-again : tie.Need-loop-again Inv-loop μ-loop
 loop-again c = let l = c .before .before .before .before in
     let es = now (l .before .before .args .entries) in
-    (omega arith, l .loop .inv .1 ∙ bad-later es (l .loop .at) (l .loop .left) (omega arith) (passed (c .before .entry-good .ensures ∙ ap goodEntry (rest (l .loop .at) es)) (c .if1 .left)))
+    (omega arith, l .loop .inv .1 ∙ bad-later es (l .loop .at) (l .loop .left) (omega arith) (was-true (c .before .entry-good .ensures ∙ ap goodEntry (rest-part (l .loop .at) es)) (c .if1 .left)))
 
 returns-2 : tie.Need-returns-2 Inv-loop μ-loop
 returns-2 c = let l = c .before in

@@ -2,7 +2,7 @@
 use mathlib.Core.Path.{ap, _∙_}
 use Prim.Native.Nat.{ℕ}
 use borrow.Author.Needs.{needs}
-use Rattle.laws.proofs.Tests.{and-fails, and-holds, same-test, other-test, passed, refused}
+use Rattle.laws.proofs.Tests.{and-fails, and-holds, same-test, other-test, was-true, was-false}
 use Rattle.model.specs.Numbers.{firstCoded, lastCoded}
 use Rattle.frame.specs.Frame.{goodCreation}
 use Rattle.laws.specs.Tests.{within}
@@ -38,7 +38,7 @@ returns-3 c = let w = c .before in
     let p = o .before .before in
     and-holds _ _ _ (same-test (p .before .payload-u32 .ensures) (p .if1 .left))
     (and-holds _ _ _ (same-test (o .before .payload-u322 .ensures) (o .if2 .left))
-    (and-fails _ _ (refused (w .coded-good .ensures ∙ ap (λ (x : ℕ). within x firstCoded lastCoded) (w .before .coded-format .ensures)) (c .if3 .taken))))
+    (and-fails _ _ (was-false (w .coded-good .ensures ∙ ap (λ (x : ℕ). within x firstCoded lastCoded) (w .before .coded-format .ensures)) (c .if3 .taken))))
 
 tag-good-requires : tie.Need-tag-good-requires
 tag-good-requires c κs = search needs
@@ -50,7 +50,7 @@ returns-4 c = let w = c .before .before in
     let p = o .before .before in
     and-holds _ _ _ (same-test (p .before .payload-u32 .ensures) (p .if1 .left))
     (and-holds _ _ _ (same-test (o .before .payload-u322 .ensures) (o .if2 .left))
-    (and-holds _ _ _ (passed (w .coded-good .ensures ∙ ap (λ (x : ℕ). within x firstCoded lastCoded) (w .before .coded-format .ensures)) (c .before .if3 .left))
+    (and-holds _ _ _ (was-true (w .coded-good .ensures ∙ ap (λ (x : ℕ). within x firstCoded lastCoded) (w .before .coded-format .ensures)) (c .before .if3 .left))
     (c .tag-good .ensures)))
 
 pub creation-good-spec : {M : Type 1} → statement M

@@ -1,4 +1,4 @@
--- `frame::entries_good` meets its contract: a chain of tests, and the entries are the rest of the frame.
+-- `frame::entries_good` meets its contract: a chain of tests, and the memory entries are the rest of the frame.
 use mathlib.Core.Path.{ap, _∙_}
 use mathlib.Core.List.{List}
 use mathlib.Core.Bool.{not}
@@ -10,7 +10,7 @@ use lib.ListN.{length}
 use borrow.Author.Needs.{needs}
 use Rattle.laws.proofs.Tests.{and-fails, and-holds, within-below, within-above, within-true}
 use Rattle.frame.specs.Frame.{goodEntries}
-use Rattle.laws.proofs.Stores.{rest}
+use Rattle.laws.proofs.Stores.{rest-part}
 use Rattle.model.specs.Commands.{badEntry}
 use Rattle.frame.proofs.entries_good.Statement.{statement}
 use Rattle.frame.proofs.entries_good.Tie as tie
@@ -53,7 +53,7 @@ returns-4 c = let t = c .before .before in
     let a = t .before .before .before .before .args in
     and-holds _ _ _ (within-true (a .sum) 1 256 (omega arith) (omega arith))
     (and-holds _ _ _ (eq-eqb (length (now (a .frame))) (88 + 16 * a .sum) (t .if3 .left))
-    (c .all-good .ensures ∙ ap (λ (es : List ℕ). not (badEntry (a .sum) es)) (rest 88 (now (a .frame)))))
+    (c .all-good .ensures ∙ ap (λ (es : List ℕ). not (badEntry (a .sum) es)) (rest-part 88 (now (a .frame)))))
 
 pub entries-good-spec : {M : Type 1} → statement M
 entries-good-spec =

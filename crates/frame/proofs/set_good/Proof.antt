@@ -1,7 +1,7 @@
 -- `frame::set_good` meets its contract: a chain of tests.
 use mathlib.Core.Path.{ap, _∙_}
 use borrow.Author.Needs.{needs}
-use Rattle.laws.proofs.Tests.{and-fails, and-holds, same-test, other-test, passed, refused}
+use Rattle.laws.proofs.Tests.{and-fails, and-holds, same-test, other-test, was-true, was-false}
 use Rattle.model.specs.Commands.{goodExtent}
 use Rattle.frame.specs.Frame.{goodSet}
 use Rattle.frame.proofs.set_good.Statement.{statement}
@@ -25,7 +25,7 @@ unfolding goodSet
 returns-2 c = let w = c .before in
     let p = w .before .before in
     and-holds _ _ _ (same-test (p .before .payload-u32 .ensures) (p .if1 .left))
-    (and-fails _ _ (refused (w .extent-good .ensures ∙ ap goodExtent (w .before .frame-width .ensures)) (c .if2 .taken)))
+    (and-fails _ _ (was-false (w .extent-good .ensures ∙ ap goodExtent (w .before .frame-width .ensures)) (c .if2 .taken)))
 
 frame-height-requires : tie.Need-frame-height-requires
 frame-height-requires c κs = search needs
@@ -38,7 +38,7 @@ unfolding goodSet
 returns-3 c = let w = c .before .before .before in
     let p = w .before .before in
     and-holds _ _ _ (same-test (p .before .payload-u32 .ensures) (p .if1 .left))
-    (and-holds _ _ _ (passed (w .extent-good .ensures ∙ ap goodExtent (w .before .frame-width .ensures)) (c .before .before .if2 .left))
+    (and-holds _ _ _ (was-true (w .extent-good .ensures ∙ ap goodExtent (w .before .frame-width .ensures)) (c .before .before .if2 .left))
     (c .extent-good2 .ensures ∙ ap goodExtent (c .before .frame-height .ensures)))
 
 pub set-good-spec : {M : Type 1} → statement M

@@ -1,4 +1,4 @@
--- `replay::feed` meets its contract: what is kept is the same within its room.
+-- `replay::feed` meets its contract: what is within_room is the same within its room.
 use mathlib.Core.Path.{ap}
 use mathlib.Core.List.{List}
 use Prim.Native.Nat.{ℕ}
@@ -10,8 +10,8 @@ use borrow.Author.Needs.{needs}
 use Rattle.replay.proofs.feed.Statement.{statement}
 use Rattle.replay.proofs.feed.Tie as tie
 
-kept-requires : tie.Need-kept-requires
-kept-requires c κs = search needs
+within-room-requires : tie.Need-within-room-requires
+within-room-requires c κs = search needs
 
 slice-aggregate-feed : tie.Need-slice-aggregate-feed
 slice-aggregate-feed c = search needs
@@ -27,18 +27,18 @@ same-length c = search needs
 
 returns : tie.Need-returns
 returns c =
-    let after-feed = c .before .before .before .before in let after-kept = after-feed .before .before .before .before in
-    let start = after-kept .before .before .before .before .before in
+    let after-feed = c .before .before .before .before in let after-within-room = after-feed .before .before .before .before in
+    let start = after-within-room .before .before .before .before .before in
     let a = start .args in
     let did = as-call (ap (λ (l : List ℕ). onPiece layout (record { table = a .table .now; line = l }) (a .piece .now))
-    (after-kept .kept .ensures .1 (a .held .now) (search needs))) (after-feed .feed .ensures .1) in
+    (after-within-room .within-room .ensures .1 (a .held .now) (search needs))) (after-feed .feed .ensures .1) in
     (rw (wrote-length (did .wrote)) (after-feed .feed .ensures .0 .1), (used-some _ (a .piece .now) did, did))
 
 pub feed-spec : {M : Type 1} → statement M
 feed-spec =
     tie.close
     (tie.spec
-    kept-requires
+    within-room-requires
     slice-aggregate-feed
     slice-aggregate-feed-2
     feed-requires

@@ -4,12 +4,12 @@ use denote.Ref.{now}
 use borrow.Author.Needs.{needs}
 use Rattle.model.specs.Device.{queueOf}
 use Rattle.model.specs.Answers.{outOfMemory, invalidResource, invalidParameter}
-use Rattle.words.specs.Found.{foundAt}
-use Rattle.words.proofs.Finds.{found-within}
-use Rattle.protocol.specs.Queue.{queueTypeOf}
-use Rattle.laws.proofs.Tests.{passed, refused}
+use Rattle.queue.specs.Found.{foundAt}
+use Rattle.queue.proofs.Finds.{found-within}
+use Rattle.protocol.specs.QueueTypes.{queueTypeOf}
+use Rattle.laws.proofs.Tests.{was-true, was-false}
 use Rattle.frame.proofs.Checks.{resource-bad}
-use Rattle.stream.specs.Replied.{asked}
+use Rattle.stream.specs.Replied.{requestTo}
 use Rattle.stream.proofs.Steps.{queue-words, queue-back, succeeded, failed}
 use Rattle.stream.proofs.Tested.{creating-again, creating-full, creating-new}
 use Rattle.stream.proofs.create_resource.Statement.{statement}
@@ -30,7 +30,7 @@ returns c b h =
     let start = after-resource-good .before .before .before .before in
     let a = start .args in
     failed (a .ticket) invalidParameter h
-    (resource-bad (asked (a .stream) (a .ticket) (now (a .frame)) b) b (queueTypeOf (a .q)) (refused (after-resource-good .resource-good .ensures) (then1 .if1 .taken)))
+    (resource-bad (requestTo (a .stream) (a .ticket) (now (a .frame)) b) b (queueTypeOf (a .q)) (was-false (after-resource-good .resource-good .ensures) (then1 .if1 .taken)))
     (after-put-plain .put-plain .ensures)
 
 queue-start-requires : tie.Need-queue-start-requires
@@ -74,7 +74,7 @@ returns-2 c b h =
     let a = start .args in
     let t = queueTypeOf (a .q) in
     failed (a .ticket) invalidResource h
-    (creating-again (asked (a .stream) (a .ticket) (now (a .frame)) b) b t (passed (after-resource-good .resource-good .ensures) (else1 .if1 .left)) _ (after-resource .resource .ensures)
+    (creating-again (requestTo (a .stream) (a .ticket) (now (a .frame)) b) b t (was-true (after-resource-good .resource-good .ensures) (else1 .if1 .left)) _ (after-resource .resource .ensures)
     (sym (then2 .if2 .taken) ∙ after-number-present .number-present .ensures (queueOf t b) (queue-words h t _ (after-queue-start .queue-start .ensures .1))))
     (after-put-plain2 .put-plain2 .ensures)
 
@@ -121,7 +121,7 @@ returns-3 c b h =
     let t = queueTypeOf (a .q) in
     let here = queue-words h t _ (after-queue-start .queue-start .ensures .1) in
     failed (a .ticket) outOfMemory h
-    (creating-full (asked (a .stream) (a .ticket) (now (a .frame)) b) b t (passed (after-resource-good .resource-good .ensures) (else1 .if1 .left)) _ (after-resource .resource .ensures)
+    (creating-full (requestTo (a .stream) (a .ticket) (now (a .frame)) b) b t (was-true (after-resource-good .resource-good .ensures) (else1 .if1 .left)) _ (after-resource .resource .ensures)
     (sym (else2 .if2 .left) ∙ after-number-present .number-present .ensures (queueOf t b) here)
     (sym (ap foundAt (after-enum-told .enum-told .given .1)) ∙ after-find-free .find-free .ensures .1 (queueOf t b) here))
     (after-put-plain3 .put-plain3 .ensures)
@@ -164,7 +164,7 @@ returns-4 c b h =
     let t = queueTypeOf (a .q) in
     let here = queue-words h t _ (after-queue-start .queue-start .ensures .1) in
     succeeded (a .ticket) _
-    (creating-new (asked (a .stream) (a .ticket) (now (a .frame)) b) b t (passed (after-resource-good .resource-good .ensures) (else1 .if1 .left)) _ (after-resource .resource .ensures)
+    (creating-new (requestTo (a .stream) (a .ticket) (now (a .frame)) b) b t (was-true (after-resource-good .resource-good .ensures) (else1 .if1 .left)) _ (after-resource .resource .ensures)
     (sym (else2 .if2 .left) ∙ after-number-present .number-present .ensures (queueOf t b) here)
     _ (sym (ap foundAt (after-found .found .given .1)) ∙ after-find-free .find-free .ensures .1 (queueOf t b) here))
     (queue-back h t _ (after-queue-start .queue-start .ensures .1) _ _ (after-set-created .set-created .ensures (queueOf t b)))

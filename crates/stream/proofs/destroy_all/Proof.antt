@@ -4,8 +4,8 @@ use mathlib.Core.Option.{some}
 use borrow.Author.Needs.{needs}
 use Rattle.model.specs.Device.{queueOf, withQueue, withSlots, freeAll}
 use Rattle.model.specs.Answers.{invalidOperation}
-use Rattle.protocol.specs.Queue.{queueTypeOf}
-use Rattle.stream.specs.Replied.{asked}
+use Rattle.protocol.specs.QueueTypes.{queueTypeOf}
+use Rattle.stream.specs.Replied.{requestTo}
 use Rattle.stream.proofs.Steps.{queue-words, queue-back, succeeded, failed}
 use Rattle.stream.proofs.Tested.{freeing-busy, freeing-idle}
 use Rattle.stream.proofs.destroy_all.Statement.{statement}
@@ -48,7 +48,7 @@ returns c f b h =
     let a = start .args in
     let t = queueTypeOf (a .q) in
     failed (a .ticket) invalidOperation h
-    (freeing-busy (asked (a .stream) (a .ticket) f b) b t
+    (freeing-busy (requestTo (a .stream) (a .ticket) f b) b t
     (sym (then1 .if1 .taken) ∙ after-any-queued .any-queued .ensures (queueOf t b) (queue-words h t _ (after-queue-start .queue-start .ensures .1))))
     (after-put-plain .put-plain .ensures)
 
@@ -88,7 +88,7 @@ returns-2 c f b h =
     let t = queueTypeOf (a .q) in
     let y = withSlots (freeAll (queueOf t b .slots)) (queueOf t b) in
     succeeded (a .ticket) (some (withQueue t y b))
-    (freeing-idle (asked (a .stream) (a .ticket) f b) b t
+    (freeing-idle (requestTo (a .stream) (a .ticket) f b) b t
     (sym (else1 .if1 .left) ∙ after-any-queued .any-queued .ensures (queueOf t b) (queue-words h t _ (after-queue-start .queue-start .ensures .1))))
     (queue-back h t _ (after-queue-start .queue-start .ensures .1) _ y (after-free-all .free-all .ensures (queueOf t b)))
     (after-put-plain2 .put-plain2 .ensures)

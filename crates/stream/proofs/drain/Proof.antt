@@ -1,4 +1,4 @@
--- `stream::drain` meets its contract: a drain that is owed refuses another.
+-- `stream::drain` meets its contract: a drain that is pending refuses another.
 use mathlib.Core.Path.{sym, ap, _∙_}
 use mathlib.Core.Option.{some}
 use borrow.Author.Needs.{needs}
@@ -10,8 +10,8 @@ use Rattle.stream.proofs.Tested.{drain-again, drain-new}
 use Rattle.stream.proofs.drain.Statement.{statement}
 use Rattle.stream.proofs.drain.Tie as tie
 
-drain-owed-requires : tie.Need-drain-owed-requires
-drain-owed-requires c κs = search needs
+pending-drain-requires : tie.Need-pending-drain-requires
+pending-drain-requires c κs = search needs
 
 enum-told : tie.Need-enum-told
 enum-told c = search needs
@@ -31,9 +31,9 @@ same-length-2 c = search needs
 returns : tie.Need-returns
 returns c f b h =
     let after-put-plain = c .before .before in let after-enum-told2 = after-put-plain .before .before in
-    let after-drain-owed = after-enum-told2 .before .before in let start = after-drain-owed .before .before .before .before in
+    let after-pending-drain = after-enum-told2 .before .before in let start = after-pending-drain .before .before .before .before in
     failed (start .args .ticket) invalidOperation h
-    (drain-again _ b (sym (ap drainOf (after-enum-told2 .enum-told2 .given .1)) ∙ after-drain-owed .drain-owed .ensures _ b (h .held)))
+    (drain-again _ b (sym (ap drainOf (after-enum-told2 .enum-told2 .given .1)) ∙ after-pending-drain .pending-drain .ensures _ b (h .held)))
     (after-put-plain .put-plain .ensures)
 
 set-drain-requires : tie.Need-set-drain-requires
@@ -45,16 +45,16 @@ same-length-3 c = search needs
 returns-2 : tie.Need-returns-2
 returns-2 c f b h =
     let after-set-drain = c .before .before in let after-enum-told = after-set-drain .before .before in
-    let after-drain-owed = after-enum-told .before .before in let start = after-drain-owed .before .before .before .before in
+    let after-pending-drain = after-enum-told .before .before in let start = after-pending-drain .before .before .before .before in
     silent _ (some (withDrain (some (start .args .ticket)) b))
-    (drain-new _ b (sym (ap drainOf (after-enum-told .enum-told .given .1)) ∙ after-drain-owed .drain-owed .ensures _ b (h .held)))
+    (drain-new _ b (sym (ap drainOf (after-enum-told .enum-told .given .1)) ∙ after-pending-drain .pending-drain .ensures _ b (h .held)))
     (after-set-drain .set-drain .ensures _ b (h .held))
 
 pub drain-spec : {M : Type 1} → statement M
 drain-spec =
     tie.close
     (tie.spec
-    drain-owed-requires
+    pending-drain-requires
     enum-told
     enum-told-2
     put-plain-requires

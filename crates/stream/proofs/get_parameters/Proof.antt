@@ -6,10 +6,10 @@ use borrow.Author.Needs.{needs}
 use Rattle.model.specs.Device.{queueOf}
 use Rattle.model.specs.Answers.{parameters}
 use Rattle.model.specs.Commands.{parameterWords}
-use Rattle.protocol.specs.Queue.{queueTypeOf}
+use Rattle.protocol.specs.QueueTypes.{queueTypeOf}
 use Rattle.answer.specs.Answer.{answerTo}
-use Rattle.stream.specs.Replied.{asked}
-use Rattle.stream.proofs.Steps.{queue-words, width-good, height-good, extent-most, replied}
+use Rattle.stream.specs.Replied.{requestTo}
+use Rattle.stream.proofs.Steps.{queue-words, width-good, height-good, extent-most, replied-by}
 use Rattle.stream.proofs.Tested.{getting}
 use Rattle.stream.proofs.get_parameters.Statement.{statement}
 use Rattle.stream.proofs.get_parameters.Tie as tie
@@ -70,8 +70,8 @@ returns c f b h =
     let t = queueTypeOf (a .q) in
     let Q = queueOf t b in
     let here = queue-words h t _ (after-queue-start .queue-start .ensures .1) in
-    replied (answerTo (a .ticket) (a .stream) (parameters (parameterWords t b)) ∷ []) (some b)
-    (getting (asked (a .stream) (a .ticket) f b) b t)
+    replied-by (answerTo (a .ticket) (a .stream) (parameters (parameterWords t b)) ∷ []) (some b)
+    (getting (requestTo (a .stream) (a .ticket) f b) b t)
     (h .held)
     (after-put-parameters .put-parameters .ensures .1 b (record {
       isFormat = after-queue-format .queue-format .ensures (a .stream) b (h .held);

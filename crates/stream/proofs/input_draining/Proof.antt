@@ -6,9 +6,9 @@ use Prim.Native.Nat.{ℕ}
 use borrow.Author.Needs.{needs}
 use Rattle.laws.specs.Lists.{isNone}
 use Rattle.model.specs.Commands.{isInput}
-use Rattle.protocol.specs.declared.queue.QueueType.{QueueType}
+use Rattle.protocol.specs.declared.queue_type.QueueType.{QueueType}
 use Rattle.table.specs.Values.{drainOf}
-use Rattle.protocol.specs.Queue.{queueTypeOf}
+use Rattle.protocol.specs.QueueTypes.{queueTypeOf}
 use Rattle.stream.proofs.input_draining.Statement.{statement}
 use Rattle.stream.proofs.input_draining.Tie as tie
 
@@ -21,8 +21,8 @@ enum-told-2 c = search needs
 returns : tie.Need-returns
 returns c n b h = ap (λ (x : QueueType). isInput (queueTypeOf x) && not (isNone (b .draining))) (sym (c .enum-told2 .given .1))
 
-drain-owed-requires : tie.Need-drain-owed-requires
-drain-owed-requires c κs = search needs
+pending-drain-requires : tie.Need-pending-drain-requires
+pending-drain-requires c κs = search needs
 
 enum-told-3 : tie.Need-enum-told-3
 enum-told-3 c = search needs
@@ -32,12 +32,12 @@ enum-told-4 c = search needs
 
 returns-2 : tie.Need-returns-2
 returns-2 c n b h =
-    ap (λ (d : Option ℕ). not (isNone d)) (sym (ap drainOf (c .enum-told4 .given .1)) ∙ c .before .before .drain-owed .ensures n b (h .held))
+    ap (λ (d : Option ℕ). not (isNone d)) (sym (ap drainOf (c .enum-told4 .given .1)) ∙ c .before .before .pending-drain .ensures n b (h .held))
     ∙ ap (λ (x : QueueType). isInput (queueTypeOf x) && not (isNone (b .draining))) (sym (c .before .before .before .enum-told .given .1))
 
 returns-3 : tie.Need-returns-3
 returns-3 c n b h =
-    ap (λ (d : Option ℕ). not (isNone d)) (sym (ap drainOf (c .enum-told3 .given .1)) ∙ c .before .before .drain-owed .ensures n b (h .held))
+    ap (λ (d : Option ℕ). not (isNone d)) (sym (ap drainOf (c .enum-told3 .given .1)) ∙ c .before .before .pending-drain .ensures n b (h .held))
     ∙ ap (λ (x : QueueType). isInput (queueTypeOf x) && not (isNone (b .draining))) (sym (c .before .before .before .enum-told .given .1))
 
 pub input-draining-spec : {M : Type 1} → statement M
@@ -47,7 +47,7 @@ input-draining-spec =
     enum-told
     enum-told-2
     returns
-    drain-owed-requires
+    pending-drain-requires
     enum-told-3
     enum-told-4
     returns-2

@@ -12,17 +12,17 @@ frame-height-requires c κs = search needs
 frame-rate-requires : tie.Need-frame-rate-requires
 frame-rate-requires c κs = search needs
 
-set-parameters-requires : tie.Need-set-parameters-requires
-set-parameters-requires c κs = search needs
+store-parameters-requires : tie.Need-store-parameters-requires
+store-parameters-requires c κs = search needs
 
 same-length : tie.Need-same-length
 same-length c = search needs
 
 returns : tie.Need-returns
 returns c Q e =
-    let after-set-parameters = c .before .before in let after-frame-rate = after-set-parameters .before .before in
+    let after-store-parameters = c .before .before in let after-frame-rate = after-store-parameters .before .before in
     let after-frame-height = after-frame-rate .before in let after-frame-width = after-frame-height .before in
-    rw (← (after-frame-width .frame-width .ensures), ← (after-frame-height .frame-height .ensures), ← (after-frame-rate .frame-rate .ensures)) (after-set-parameters .set-parameters .ensures Q e)
+    rw (← (after-frame-width .frame-width .ensures), ← (after-frame-height .frame-height .ensures), ← (after-frame-rate .frame-rate .ensures)) (after-store-parameters .store-parameters .ensures Q e)
 
 pub keep-parameters-spec : {M : Type 1} → statement M
 keep-parameters-spec =
@@ -31,6 +31,6 @@ keep-parameters-spec =
     frame-width-requires
     frame-height-requires
     frame-rate-requires
-    set-parameters-requires
+    store-parameters-requires
     same-length
     returns)

@@ -1,8 +1,8 @@
 -- `stream::number_present` meets its contract: what the search found.
 use mathlib.Core.Path.{sym, ap, _∙_}
 use borrow.Author.Needs.{needs}
-use Rattle.words.specs.Found.{foundAt}
-use Rattle.words.proofs.Bridge.{find-present, find-absent}
+use Rattle.queue.specs.Found.{foundAt}
+use Rattle.queue.proofs.Bridge.{find-present, find-absent}
 use Rattle.stream.proofs.number_present.Statement.{statement}
 use Rattle.stream.proofs.number_present.Tie as tie
 

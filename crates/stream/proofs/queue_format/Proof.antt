@@ -2,8 +2,8 @@
 use mathlib.Core.Path.{sym, ap, _∙_}
 use borrow.Author.Needs.{needs}
 use Rattle.model.specs.Commands.{formatOf}
-use Rattle.protocol.specs.declared.queue.QueueType.{QueueType}
-use Rattle.protocol.specs.Queue.{queueTypeOf}
+use Rattle.protocol.specs.declared.queue_type.QueueType.{QueueType}
+use Rattle.protocol.specs.QueueTypes.{queueTypeOf}
 use Rattle.stream.proofs.queue_format.Statement.{statement}
 use Rattle.stream.proofs.queue_format.Tie as tie
 

@@ -5,13 +5,13 @@ use denote.Ref.{now}
 use borrow.Author.Needs.{needs}
 use Rattle.model.specs.Device.{queueOf}
 use Rattle.model.specs.Answers.{invalidOperation, invalidResource, invalidParameter}
-use Rattle.words.specs.Found.{foundAt}
-use Rattle.words.proofs.Finds.{found-within}
-use Rattle.words.specs.Search.{findResource}
-use Rattle.protocol.specs.Queue.{queueTypeOf}
-use Rattle.laws.proofs.Tests.{passed, refused}
+use Rattle.queue.specs.Found.{foundAt}
+use Rattle.queue.proofs.Finds.{found-within}
+use Rattle.queue.specs.Search.{findResource}
+use Rattle.protocol.specs.QueueTypes.{queueTypeOf}
+use Rattle.laws.proofs.Tests.{was-true, was-false}
 use Rattle.frame.proofs.Checks.{queue-bad}
-use Rattle.stream.specs.Replied.{asked}
+use Rattle.stream.specs.Replied.{requestTo}
 use Rattle.stream.proofs.Steps.{queue-words, failed}
 use Rattle.stream.proofs.Tested.{queueing-shut, queueing-absent}
 use Rattle.stream.proofs.queue_resource.Statement.{statement}
@@ -32,7 +32,7 @@ returns c b h =
     let start = after-sizes-good .before .before .before .before in
     let a = start .args in
     failed (a .ticket) invalidParameter h
-    (queue-bad (asked (a .stream) (a .ticket) (now (a .frame)) b) b (queueTypeOf (a .q)) (refused (after-sizes-good .sizes-good .ensures) (then1 .if1 .taken)))
+    (queue-bad (requestTo (a .stream) (a .ticket) (now (a .frame)) b) b (queueTypeOf (a .q)) (was-false (after-sizes-good .sizes-good .ensures) (then1 .if1 .taken)))
     (after-put-plain .put-plain .ensures)
 
 queue-shut-requires : tie.Need-queue-shut-requires
@@ -53,7 +53,7 @@ returns-2 c b h =
     let else1 = after-queue-shut .before .before in let after-sizes-good = else1 .before in let start = after-sizes-good .before .before .before .before in
     let a = start .args in
     failed (a .ticket) invalidOperation h
-    (queueing-shut (asked (a .stream) (a .ticket) (now (a .frame)) b) b (queueTypeOf (a .q)) (passed (after-sizes-good .sizes-good .ensures) (else1 .if1 .left))
+    (queueing-shut (requestTo (a .stream) (a .ticket) (now (a .frame)) b) b (queueTypeOf (a .q)) (was-true (after-sizes-good .sizes-good .ensures) (else1 .if1 .left))
     (sym (then2 .if2 .taken) ∙ after-queue-shut .queue-shut .ensures (a .stream) b h))
     (after-put-plain2 .put-plain2 .ensures)
 
@@ -105,7 +105,7 @@ returns-3 c b h =
     let a = start .args in
     let t = queueTypeOf (a .q) in
     failed (a .ticket) invalidResource h
-    (queueing-absent (asked (a .stream) (a .ticket) (now (a .frame)) b) b t (passed (after-sizes-good .sizes-good .ensures) (else1 .if1 .left))
+    (queueing-absent (requestTo (a .stream) (a .ticket) (now (a .frame)) b) b t (was-true (after-sizes-good .sizes-good .ensures) (else1 .if1 .left))
     (sym (else2 .if2 .left) ∙ after-queue-shut .queue-shut .ensures (a .stream) b h)
     (sym (ap foundAt (after-enum-told .enum-told .given .1)) ∙ after-find-resource .find-resource .ensures .1 (queueOf t b) (queue-words h t _ (after-queue-start .queue-start .ensures .1))
     ∙ ap (λ (n : ℕ). findResource n (queueOf t b .slots)) (after-resource .resource .ensures)))
@@ -130,7 +130,7 @@ returns-4 c b h =
     let t = queueTypeOf (a .q) in
     let s = queueOf t b .slots in
     after-queue-slot .queue-slot .ensures b h (record {
-      sizes = passed (after-sizes-good .sizes-good .ensures) (else1 .if1 .left);
+      sizes = was-true (after-sizes-good .sizes-good .ensures) (else1 .if1 .left);
       takes = sym (after-queue-shut .queue-shut .ensures (a .stream) b h) ∙ else2 .if2 .left;
       found =
           sym (ap (λ (n : ℕ). findResource n s) (after-resource .resource .ensures))

@@ -3,7 +3,7 @@ use mathlib.Core.Path.{sym, ap, _∙_}
 use mathlib.Core.Bool.{Bool, _||_}
 use borrow.Author.Needs.{needs}
 use Rattle.model.specs.Device.{queueOf}
-use Rattle.protocol.specs.Queue.{queueTypeOf}
+use Rattle.protocol.specs.QueueTypes.{queueTypeOf}
 use Rattle.stream.proofs.Steps.{queue-words}
 use Rattle.stream.proofs.queue_shut.Statement.{statement}
 use Rattle.stream.proofs.queue_shut.Tie as tie

@@ -8,11 +8,11 @@ use Rattle.model.specs.Device.{queueOf, withQueue}
 use Rattle.model.specs.Frames.{frameWidth, frameHeight, frameRate}
 use Rattle.model.specs.Answers.{invalidOperation, invalidParameter}
 use Rattle.model.specs.Commands.{withParameters}
-use Rattle.protocol.specs.Queue.{queueTypeOf}
+use Rattle.protocol.specs.QueueTypes.{queueTypeOf}
 use Rattle.frame.specs.Frame.{goodSet}
-use Rattle.laws.proofs.Tests.{passed, refused}
+use Rattle.laws.proofs.Tests.{was-true, was-false}
 use Rattle.frame.proofs.Checks.{set-bad}
-use Rattle.stream.specs.Replied.{asked}
+use Rattle.stream.specs.Replied.{requestTo}
 use Rattle.stream.proofs.Steps.{queue-words, queue-back, succeeded, failed}
 use Rattle.stream.proofs.Tested.{setting-busy, setting-idle}
 use Rattle.stream.proofs.set_parameters.Statement.{statement}
@@ -41,8 +41,8 @@ returns c b h =
     let t = queueTypeOf (a .q) in
     let f = now (a .frame) in
     failed (a .ticket) invalidParameter h
-    (set-bad (asked (a .stream) (a .ticket) f b) b t
-    (refused (after-set-good .set-good .ensures ∙ ap (λ (k : ℕ). goodSet k f) (after-queue-format .queue-format .ensures (a .stream) b (h .held))) (then1 .if1 .taken)))
+    (set-bad (requestTo (a .stream) (a .ticket) f b) b t
+    (was-false (after-set-good .set-good .ensures ∙ ap (λ (k : ℕ). goodSet k f) (after-queue-format .queue-format .ensures (a .stream) b (h .held))) (then1 .if1 .taken)))
     (after-put-plain .put-plain .ensures)
 
 queue-start-requires : tie.Need-queue-start-requires
@@ -84,8 +84,8 @@ returns-2 c b h =
     let t = queueTypeOf (a .q) in
     let f = now (a .frame) in
     failed (a .ticket) invalidOperation h
-    (setting-busy (asked (a .stream) (a .ticket) f b) b t
-    (passed (after-set-good .set-good .ensures ∙ ap (λ (k : ℕ). goodSet k f) (after-queue-format .queue-format .ensures (a .stream) b (h .held))) (else1 .if1 .left))
+    (setting-busy (requestTo (a .stream) (a .ticket) f b) b t
+    (was-true (after-set-good .set-good .ensures ∙ ap (λ (k : ℕ). goodSet k f) (after-queue-format .queue-format .ensures (a .stream) b (h .held))) (else1 .if1 .left))
     (sym (then2 .if2 .taken) ∙ after-any-queued .any-queued .ensures (queueOf t b) (queue-words h t _ (after-queue-start .queue-start .ensures .1))))
     (after-put-plain2 .put-plain2 .ensures)
 
@@ -127,8 +127,8 @@ returns-3 c b h =
     let f = now (a .frame) in
     let y = withParameters (frameWidth f) (frameHeight f) (frameRate f) (queueOf t b) in
     succeeded (a .ticket) (some (withQueue t y b))
-    (setting-idle (asked (a .stream) (a .ticket) f b) b t
-    (passed (after-set-good .set-good .ensures ∙ ap (λ (k : ℕ). goodSet k f) (after-queue-format .queue-format .ensures (a .stream) b (h .held))) (else1 .if1 .left))
+    (setting-idle (requestTo (a .stream) (a .ticket) f b) b t
+    (was-true (after-set-good .set-good .ensures ∙ ap (λ (k : ℕ). goodSet k f) (after-queue-format .queue-format .ensures (a .stream) b (h .held))) (else1 .if1 .left))
     (sym (else2 .if2 .left) ∙ after-any-queued .any-queued .ensures (queueOf t b) (queue-words h t _ (after-queue-start .queue-start .ensures .1))))
     (queue-back h t _ (after-queue-start .queue-start .ensures .1) _ y (after-keep-parameters .keep-parameters .ensures (queueOf t b)))
     (after-put-plain3 .put-plain3 .ensures)

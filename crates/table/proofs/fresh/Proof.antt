@@ -1,9 +1,9 @@
 -- `table::fresh` meets its contract: the used words are cleared, and the table of no streams is all zero.
 use mathlib.Core.List.{List, _++_}
 use mathlib.Core.Path.{sym, ap, _∙_}
-use Prim.Native.Nat.{ℕ}
+use Prim.Native.Nat.{ℕ, _<_}
 use lib.Seq.{length-take-le}
-use lib.ListN.{drop}
+use lib.ListN.{length, drop}
 use borrow.Author.Tests.{lt-ltb, le-ltb}
 use borrow.Author.Needs.{needs}
 use Rattle.table.proofs.Theorems.{fresh-is-zero}
@@ -16,19 +16,20 @@ use Rattle.table.proofs.fresh.Tie as tie
 
 returns : tie.Need-returns
 unfolding freshen
-returns c = rw (lt-ltb _ _ (c .if1 .taken))
+returns c =
+    let short : length (c .before .before .args .table .now) < tableWords = c .if1 .taken in rw (lt-ltb _ _ short)
 
-sub-clear : tie.Need-sub-clear
-sub-clear c = search needs
+sub-fill-zero : tie.Need-sub-fill-zero
+sub-fill-zero c = search needs
 
-part-clear-start : tie.Need-part-clear-start
-part-clear-start c = search needs
+part-fill-zero-start : tie.Need-part-fill-zero-start
+part-fill-zero-start c = search needs
 
-part-clear-end : tie.Need-part-clear-end
-part-clear-end c = search needs
+part-fill-zero-end : tie.Need-part-fill-zero-end
+part-fill-zero-end c = search needs
 
-clear-requires : tie.Need-clear-requires
-clear-requires c κs = search needs
+fill-zero-requires : tie.Need-fill-zero-requires
+fill-zero-requires c κs = search needs
 
 same-length : tie.Need-same-length
 same-length c = search needs
@@ -38,16 +39,16 @@ unfolding freshen
 returns-2 c =
     let t = c .before .before .before .before .before .before .args .table .now in
     let long = c .before .before .before .before .if1 .left in
-    rw (le-ltb _ _ long) (ap (λ (w : List ℕ). freshened 0 (w ++ drop tableWords t)) (c .before .before .clear .ensures ∙ ap zeros (length-take-le tableWords t long) ∙ sym fresh-is-zero))
+    rw (le-ltb _ _ long) (ap (λ (w : List ℕ). freshened 0 (w ++ drop tableWords t)) (c .before .before .fill-zero .ensures ∙ ap zeros (length-take-le tableWords t long) ∙ sym fresh-is-zero))
 
 pub fresh-spec : {M : Type 1} → statement M
 fresh-spec =
     tie.close
     (tie.spec
     returns
-    sub-clear
-    part-clear-start
-    part-clear-end
-    clear-requires
+    sub-fill-zero
+    part-fill-zero-start
+    part-fill-zero-end
+    fill-zero-requires
     same-length
     returns-2)

@@ -1,11 +1,11 @@
--- `tag::class_of` meets its contract: the table's rule is one test that antt computes over its 256 entries, carried to the octet by `entry`.
+-- `tag::class_of` meets its contract: the table's rule is one test that antt computes over its 256 elements, carried to the octet by `table-rule`.
 use mathlib.Core.List.{List, _∷_, _++_}
 use Prim.Native.Nat.{ℕ}
 use native.Mathlib.Omega.{arith}
 use lib.ListN.{replicate}
 use borrow.Author.Needs.{needs}
 use Rattle.laws.specs.Tests.{within}
-use Rattle.laws.proofs.Table.{entry}
+use Rattle.laws.proofs.Table.{table-rule}
 use Rattle.tag.specs.Utf8.{classOf}
 use Rattle.tag.proofs.class_of.Statement.{statement}
 use Rattle.tag.proofs.class_of.Tie as tie
@@ -18,7 +18,7 @@ array-read-result c = search needs
 
 returns : tie.Need-returns
 unfolding classes classOf within
-returns c = entry classOf classes tt (c .args .b) (omega arith)
+returns c = table-rule classOf classes tt (c .args .b) (omega arith)
 
 pub class-of-spec : {M : Type 1} → statement M
 class-of-spec = tie.close (tie.spec array-read-result returns)

@@ -5,7 +5,7 @@ use native.Mathlib.Omega.{arith}
 use lib.ListN.{length, length-drop}
 use lib.Seq.{length-take-le}
 use borrow.Author.Needs.{needs}
-use Rattle.laws.proofs.Stores.{rest}
+use Rattle.laws.proofs.Stores.{rest-part}
 use Rattle.video_log.proofs.feed_all.Statement.{statement}
 use Rattle.video_log.proofs.feed_all.Tie as tie
 
@@ -39,25 +39,31 @@ slice-aggregate-write-all c = sym (length-take-le _ _ (c .before .before .before
 write-all-requires : tie.Need-write-all-requires Inv-loop μ-loop
 write-all-requires c κs = search needs
 
-add-at : tie.Need-add-at Inv-loop μ-loop
-add-at c = search needs
-
-loop-less : tie.Need-loop-less Inv-loop μ-loop
-loop-less c =
-    let after-feed = c .before .before .before .before in let in-loop = after-feed .before .before .before .before .before in let at-loop = in-loop .before in
-    let start = at-loop .before .before .before in
-    let l = at-loop .loop in
-    let left = rest (l .at) (start .args .piece .now) in
-    omega (arith, after-feed .feed .ensures .1 .0 .1 (rw left (rw length-drop (omega (arith, in-loop .loop-test .taken)))), in-loop .loop-test .taken)
-
-loop-again : tie.Need-loop-again Inv-loop μ-loop
-loop-again c = search needs
-
 same-length : tie.Need-same-length Inv-loop μ-loop
 same-length c = search needs
 
 returns : tie.Need-returns Inv-loop μ-loop
 returns c = search needs
+
+add-at : tie.Need-add-at Inv-loop μ-loop
+add-at c = search needs
+
+loop-less : tie.Need-loop-less Inv-loop μ-loop
+loop-less c =
+    let after-feed = c .before .before .before .before .before in let in-loop = after-feed .before .before .before .before .before in
+    let at-loop = in-loop .before in let start = at-loop .before .before .before in
+    let l = at-loop .loop in
+    let left = rest-part (l .at) (start .args .piece .now) in
+    omega (arith, after-feed .feed .ensures .1 .0 .1 (rw left (rw length-drop (omega (arith, in-loop .loop-test .taken)))), in-loop .loop-test .taken)
+
+loop-again : tie.Need-loop-again Inv-loop μ-loop
+loop-again c = search needs
+
+same-length-2 : tie.Need-same-length-2 Inv-loop μ-loop
+same-length-2 c = search needs
+
+returns-2 : tie.Need-returns-2 Inv-loop μ-loop
+returns-2 c = search needs
 
 pub feed-all-spec : {M : Type 1} → statement M
 feed-all-spec =
@@ -73,8 +79,10 @@ feed-all-spec =
     array-share-prefix-out
     slice-aggregate-write-all
     write-all-requires
+    same-length
+    returns
     add-at
     loop-less
     loop-again
-    same-length
-    returns)
+    same-length-2
+    returns-2)

@@ -17,6 +17,9 @@ loop-holds c = search needs
 read-once-requires : tie.Need-read-once-requires Inv-loop μ-loop
 read-once-requires c κs = search needs
 
+enum-known-progress : tie.Need-enum-known-progress Inv-loop μ-loop
+enum-known-progress c = search needs
+
 same-length : tie.Need-same-length Inv-loop μ-loop
 same-length c = search needs
 
@@ -46,6 +49,7 @@ read-all-spec =
     μ-loop
     loop-holds
     read-once-requires
+    enum-known-progress
     same-length
     returns
     sub-turns

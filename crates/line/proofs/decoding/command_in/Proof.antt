@@ -5,7 +5,7 @@ use denote.Ref.{now}
 use lib.ListN.{length-drop}
 use lib.Seq.{length-take-le, sets}
 use borrow.Author.Needs.{needs}
-use Rattle.laws.proofs.Stores.{rest}
+use Rattle.laws.proofs.Stores.{rest-part}
 use Rattle.line.specs.Hex.{isHex}
 use Rattle.line.specs.Line.{Line, commandBytes}
 use Rattle.line.proofs.Digits.{hex-drop, hex-take}
@@ -47,7 +47,7 @@ unhex-requires-2 : tie.Need-unhex-requires-2
 unhex-requires-2 c κs =
     let else1 = c .before .before .before .before .before .before in let start = else1 .before .before .before in
     let line = now (start .args .line) in
-    (ap isHex (rest 10 line) ∙ hex-drop 5 line (start .pre .0), rw (rest 10 line) (omega (arith, length-drop 10 line)))
+    (ap isHex (rest-part 10 line) ∙ hex-drop 5 line (start .pre .0), rw (rest-part 10 line) (omega (arith, length-drop 10 line)))
 
 slice-aggregate-read-u32 : tie.Need-slice-aggregate-read-u32
 slice-aggregate-read-u32 c = search needs

@@ -1,9 +1,9 @@
--- `line::hex::lower` meets its contract: the table's rule is one test that antt computes, by `entry`.
+-- `line::hex::lower` meets its contract: the table's rule is one test that antt computes, by `table-rule`.
 use mathlib.Core.List.{List, [], _∷_}
 use Prim.Native.Nat.{ℕ}
 use native.Mathlib.Omega.{arith}
 use borrow.Author.Needs.{needs}
-use Rattle.laws.proofs.Table.{entry}
+use Rattle.laws.proofs.Table.{table-rule}
 use Rattle.line.specs.Hex.{lowerDigit}
 use Rattle.line.proofs.hex.lower.Statement.{statement}
 use Rattle.line.proofs.hex.lower.Tie as tie
@@ -16,7 +16,7 @@ array-read-result c = search needs
 
 returns : tie.Need-returns
 unfolding lowers lowerDigit
-returns c = entry lowerDigit lowers tt (c .args .n) (omega arith)
+returns c = table-rule lowerDigit lowers tt (c .args .n) (omega arith)
 
 pub lower-spec : {M : Type 1} → statement M
 lower-spec = tie.close (tie.spec array-read-result returns)

@@ -6,7 +6,7 @@ use denote.Ref.{now}
 use lib.ListN.{length, take, drop, length-set, length-drop}
 use lib.Seq.{length-take-le}
 use borrow.Author.Needs.{needs}
-use Rattle.laws.proofs.Stores.{rest}
+use Rattle.laws.proofs.Stores.{rest-part}
 use Rattle.line.proofs.Digits.{length-text}
 use Rattle.line.proofs.Written.{wrote-answer}
 use Rattle.line.proofs.writing.put_answer.Statement.{statement}
@@ -46,7 +46,7 @@ put-hex-requires-2 c κs =
     let answer = now (start .args .answer) in
     let ticket : after-put-hex .put-hex .result ≡ start .args .at + 2 + 8 = after-put-hex .put-hex .ensures .next
     ∙ (omega (arith, length-text (take 4 answer), length-take-le 4 answer (omega arith))) in
-    let rest-length : length (take (length answer - 8) (drop 8 answer)) ≡ length answer - 8 = ap length (rest 8 answer) ∙ length-drop 8 answer in
+    let rest-length : length (take (length answer - 8) (drop 8 answer)) ≡ length answer - 8 = ap length (rest-part 8 answer) ∙ length-drop 8 answer in
     omega (arith, ticket, rest-length)
 
 slice-write-out : tie.Need-slice-write-out
@@ -56,7 +56,7 @@ slice-write-out c =
     let answer = now (start .args .answer) in
     let ticket : after-put-hex .put-hex .result ≡ start .args .at + 2 + 8 = after-put-hex .put-hex .ensures .next
     ∙ (omega (arith, length-text (take 4 answer), length-take-le 4 answer (omega arith))) in
-    let rest-length : length (take (length answer - 8) (drop 8 answer)) ≡ length answer - 8 = ap length (rest 8 answer) ∙ length-drop 8 answer in
+    let rest-length : length (take (length answer - 8) (drop 8 answer)) ≡ length answer - 8 = ap length (rest-part 8 answer) ∙ length-drop 8 answer in
     let end : after-put-hex2 .put-hex2 .result ≡ start .args .at + 10 + 2 * (length answer - 8) = after-put-hex2 .put-hex2 .ensures .next
     ∙ (omega (arith, ticket, length-text (take (length answer - 8) (drop 8 answer)), rest-length)) in
     omega (arith, end)
@@ -68,7 +68,7 @@ add-result c =
     let answer = now (start .args .answer) in
     let ticket : after-put-hex .put-hex .result ≡ start .args .at + 2 + 8 = after-put-hex .put-hex .ensures .next
     ∙ (omega (arith, length-text (take 4 answer), length-take-le 4 answer (omega arith))) in
-    let rest-length : length (take (length answer - 8) (drop 8 answer)) ≡ length answer - 8 = ap length (rest 8 answer) ∙ length-drop 8 answer in
+    let rest-length : length (take (length answer - 8) (drop 8 answer)) ≡ length answer - 8 = ap length (rest-part 8 answer) ∙ length-drop 8 answer in
     let end : after-put-hex2 .put-hex2 .result ≡ start .args .at + 10 + 2 * (length answer - 8) = after-put-hex2 .put-hex2 .ensures .next
     ∙ (omega (arith, ticket, length-text (take (length answer - 8) (drop 8 answer)), rest-length)) in
     omega (arith, end)

@@ -6,8 +6,8 @@ use Rattle.laws.specs.Parts.{zeros}
 use Rattle.table.proofs.block.free_stream.Statement.{statement}
 use Rattle.table.proofs.block.free_stream.Tie as tie
 
-clear-requires : tie.Need-clear-requires
-clear-requires c κs = search needs
+fill-zero-requires : tie.Need-fill-zero-requires
+fill-zero-requires c κs = search needs
 
 same-length : tie.Need-same-length
 same-length c = search needs
@@ -15,8 +15,8 @@ same-length c = search needs
 returns : tie.Need-returns
 unfolding placeWords
 returns c =
-    let after-clear = c .before .before in let start = after-clear .before .before .before in
-    after-clear .clear .ensures ∙ ap zeros (start .pre)
+    let after-fill-zero = c .before .before in let start = after-fill-zero .before .before .before in
+    after-fill-zero .fill-zero .ensures ∙ ap zeros (start .pre)
 
 pub free-stream-spec : {M : Type 1} → statement M
-free-stream-spec = tie.close (tie.spec clear-requires same-length returns)
+free-stream-spec = tie.close (tie.spec fill-zero-requires same-length returns)

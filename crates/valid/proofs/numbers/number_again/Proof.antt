@@ -4,18 +4,18 @@ use mathlib.Core.Bool.{false}
 use native.Mathlib.Omega.{arith}
 use borrow.Author.Needs.{needs}
 use Rattle.valid.specs.Rules.{Apart, Told}
-use Rattle.valid.proofs.Elements.{inside, from-empty, from-number, told-apart, told-looked, told-new}
+use Rattle.valid.proofs.Elements.{element-inside, from-empty, from-number, told-apart, told-looked, told-new}
 use Rattle.valid.proofs.numbers.number_again.Statement.{statement}
 use Rattle.valid.proofs.numbers.number_again.Tie as tie
 
 mul-at : tie.Need-mul-at
-mul-at c = let s = c .before in omega (arith, inside (s .args .step) (s .args .count) (s .args .i) (s .pre .2))
+mul-at c = let s = c .before in omega (arith, element-inside (s .args .step) (s .args .count) (s .args .i) (s .pre .2))
 
 mul-if1 : tie.Need-mul-if1
-mul-if1 c = let s = c .before in omega (arith, inside (s .args .step) (s .args .count) (s .args .i) (s .pre .2))
+mul-if1 c = let s = c .before in omega (arith, element-inside (s .args .step) (s .args .count) (s .args .i) (s .pre .2))
 
 shared-slice-read-if1 : tie.Need-shared-slice-read-if1
-shared-slice-read-if1 c = let s = c .before .before in omega (arith, inside (s .args .step) (s .args .count) (s .args .i) (s .pre .2))
+shared-slice-read-if1 c = let s = c .before .before in omega (arith, element-inside (s .args .step) (s .args .count) (s .args .i) (s .pre .2))
 
 returns : tie.Need-returns
 returns c =
@@ -23,13 +23,13 @@ returns c =
     λ a. told-apart (subst (Apart (s .args .marks .now)) (sym (from-empty _ _ _ (s .args .i) (s .pre .0) (s .pre .2) (c .if1 .taken))) a)
 
 add-number : tie.Need-add-number
-add-number c = let s = c .before .before .before in omega (arith, inside (s .args .step) (s .args .count) (s .args .i) (s .pre .2))
+add-number c = let s = c .before .before .before in omega (arith, element-inside (s .args .step) (s .args .count) (s .args .i) (s .pre .2))
 
 mul-number : tie.Need-mul-number
-mul-number c = let s = c .before .before .before in omega (arith, inside (s .args .step) (s .args .count) (s .args .i) (s .pre .2))
+mul-number c = let s = c .before .before .before in omega (arith, element-inside (s .args .step) (s .args .count) (s .args .i) (s .pre .2))
 
 shared-slice-read-number : tie.Need-shared-slice-read-number
-shared-slice-read-number c = let s = c .before .before .before .before in omega (arith, inside (s .args .step) (s .args .count) (s .args .i) (s .pre .2))
+shared-slice-read-number c = let s = c .before .before .before .before in omega (arith, element-inside (s .args .step) (s .args .count) (s .args .i) (s .pre .2))
 
 cast-mark : tie.Need-cast-mark
 cast-mark c = search needs

@@ -5,7 +5,7 @@ use native.Mathlib.Omega.{arith}
 use borrow.Author.Needs.{needs}
 use Rattle.laws.specs.Lists.{standsIn}
 use Rattle.valid.specs.Rules.{numbersFrom}
-use Rattle.valid.proofs.Elements.{inside, from-end, stands-step}
+use Rattle.valid.proofs.Elements.{element-inside, from-end, stands-step}
 use Rattle.valid.proofs.numbers.number_from.Statement.{statement}
 use Rattle.valid.proofs.numbers.number_from.Tie as tie
 
@@ -19,10 +19,10 @@ loop-holds : tie.Need-loop-holds Inv-loop μ-loop
 loop-holds c = (search needs, refl)
 
 mul-holds-number : tie.Need-mul-holds-number Inv-loop μ-loop
-mul-holds-number c = omega (arith, inside (c .before .before .before .args .step) (c .before .before .before .args .count) (c .before .loop .i) (search needs))
+mul-holds-number c = omega (arith, element-inside (c .before .before .before .args .step) (c .before .before .before .args .count) (c .before .loop .i) (search needs))
 
 holds-number-requires : tie.Need-holds-number-requires Inv-loop μ-loop
-holds-number-requires c κs = omega (arith, inside (c .before .before .before .args .step) (c .before .before .before .args .count) (c .before .loop .i) (search needs))
+holds-number-requires c κs = omega (arith, element-inside (c .before .before .before .args .step) (c .before .before .before .args .count) (c .before .loop .i) (search needs))
 
 returns : tie.Need-returns Inv-loop μ-loop
 returns c =

@@ -1,12 +1,12 @@
 -- `valid::checks::head_stands` meets its contract: a law for each case of the drain word.
 use mathlib.Core.Path.{_∙_}
 use borrow.Author.Needs.{needs}
-use Rattle.valid.proofs.PlaceStands.{head-settled, head-owed, head-other}
+use Rattle.valid.proofs.PlaceStands.{head-idle, head-draining, head-other}
 use Rattle.valid.proofs.places.head_stands.Statement.{statement}
 use Rattle.valid.proofs.places.head_stands.Tie as tie
 
-shared-slice-read-owed : tie.Need-shared-slice-read-owed
-shared-slice-read-owed c = search needs
+shared-slice-read-drain : tie.Need-shared-slice-read-drain
+shared-slice-read-drain c = search needs
 
 sub-all-zero : tie.Need-sub-all-zero
 sub-all-zero c = search needs
@@ -23,7 +23,7 @@ all-zero-requires c κs = search needs
 returns : tie.Need-returns
 returns c =
     let then1 = c .before .before in let start = then1 .before .before .before in
-    c .all-zero .ensures ∙ head-settled _ (start .pre .0) (start .pre .1) (then1 .if1 .taken)
+    c .all-zero .ensures ∙ head-idle _ (start .pre .0) (start .pre .1) (then1 .if1 .taken)
 
 sub-all-zero-2 : tie.Need-sub-all-zero-2
 sub-all-zero-2 c = search needs
@@ -40,7 +40,7 @@ all-zero-requires-2 c κs = search needs
 returns-2 : tie.Need-returns-2
 returns-2 c =
     let then2 = c .before .before in let start = then2 .before .before .before .before in
-    c .all-zero2 .ensures ∙ head-owed _ (start .pre .0) (start .pre .1) (then2 .if2 .taken)
+    c .all-zero2 .ensures ∙ head-draining _ (start .pre .0) (start .pre .1) (then2 .if2 .taken)
 
 returns-3 : tie.Need-returns-3
 returns-3 c =
@@ -51,7 +51,7 @@ pub head-stands-spec : {M : Type 1} → statement M
 head-stands-spec =
     tie.close
     (tie.spec
-    shared-slice-read-owed
+    shared-slice-read-drain
     sub-all-zero
     part-all-zero-start
     part-all-zero-end

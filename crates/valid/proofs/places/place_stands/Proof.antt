@@ -11,7 +11,7 @@ use lib.Dec.{lit<}
 use borrow.Author.Tests.{not-true, not-false}
 use Rattle.laws.specs.Lists.{same}
 use Rattle.laws.specs.Parts.{part, zeros}
-use Rattle.words.specs.Words.{queueWords, decodeQueue}
+use Rattle.queue.specs.Words.{queueWords, decodeQueue}
 use Rattle.valid.specs.Rules.{headStands}
 use Rattle.valid.proofs.PlaceStands.{stands-vacant, stands-live}
 use Rattle.valid.proofs.places.place_stands.Statement.{statement}

@@ -9,12 +9,12 @@ use lib.ListN.{getD}
 use borrow.Author.Tests.{eqb-false}
 use Rattle.laws.specs.Lists.{allOf}
 use Rattle.laws.specs.Tests.{within}
-use Rattle.laws.proofs.Tests.{passed, refused}
+use Rattle.laws.proofs.Tests.{was-true, was-false}
 use Rattle.model.specs.Numbers.{firstCoded, lastCoded}
 use Rattle.model.specs.Device.{input, output, Stream, vacant, occupied}
 use Rattle.model.specs.WellFormed.{u32, goodPlace}
 use Rattle.table.specs.Blocks.{placeWords}
-use Rattle.table.specs.Search.{sized}
+use Rattle.table.specs.Search.{hasAllSlots}
 use Rattle.table.proofs.Records.{queue-read}
 use Rattle.table.proofs.Heads.{vacant-word, live-word, format-word}
 use Rattle.valid.proofs.Good.{all-words, queueRules, wide-place}
@@ -22,7 +22,7 @@ use Rattle.valid.proofs.places.place_well.Statement.{statement}
 use Rattle.valid.proofs.places.place_well.Tie as tie
 
 -- what is left to test of a live stream, its words being 32-bit words
-rules : (l : List ℕ) → ((i : ℕ) → getD l i 0 < 2 ^ 32) → (n : ℕ) (s : Stream) → sized (occupied n s) ≡ true → l ≡ placeWords (occupied n s)
+rules : (l : List ℕ) → ((i : ℕ) → getD l i 0 < 2 ^ 32) → (n : ℕ) (s : Stream) → hasAllSlots (occupied n s) ≡ true → l ≡ placeWords (occupied n s)
     → goodPlace (occupied n s) ≡ within (s .format) firstCoded lastCoded && (queueRules (s .inputs) && queueRules (s .outputs))
 rules l narrow n s z e = wide-place n s z (ap (allOf u32) (sym e) ∙ all-words l narrow)
 
@@ -50,7 +50,7 @@ returns-2 c vacant z e =
 returns-2 c (occupied n s) z e =
     let after-coded-good = c .before in let after-shared-slice-known2 = after-coded-good .before .before .before in
     sym (rules _ (λ i. omega (arith, after-shared-slice-known2 .shared-slice-known2 .given i)) n s z e
-    ∙ rw (refused (format-test _ n s e (after-coded-good .coded-good .ensures)) (c .if2 .taken)))
+    ∙ rw (was-false (format-test _ n s e (after-coded-good .coded-good .ensures)) (c .if2 .taken)))
 
 sub-queue-well : tie.Need-sub-queue-well
 sub-queue-well c = search needs
@@ -73,8 +73,8 @@ returns-3 c (occupied n s) z e =
     let after-shared-slice-known2 = after-coded-good .before .before .before in
     sym (rules _ (λ i. omega (arith, after-shared-slice-known2 .shared-slice-known2 .given i)) n s z e
     ∙ rw (
-      passed (format-test _ n s e (after-coded-good .coded-good .ensures)) (else2 .if2 .left),
-      refused (after-queue-well .queue-well .ensures (s .inputs) (queue-read n s z input 8 refl _ e)) (c .if3 .taken),
+      was-true (format-test _ n s e (after-coded-good .coded-good .ensures)) (else2 .if2 .left),
+      was-false (after-queue-well .queue-well .ensures (s .inputs) (queue-read n s z input 8 refl _ e)) (c .if3 .taken),
     ))
 
 sub-queue-well-2 : tie.Need-sub-queue-well-2
@@ -99,8 +99,8 @@ returns-4 c (occupied n s) z e =
     c .queue-well2 .ensures (s .outputs) (queue-read n s z output 92 refl _ e)
     ∙ sym (rules _ (λ i. omega (arith, after-shared-slice-known2 .shared-slice-known2 .given i)) n s z e
     ∙ rw (
-      passed (format-test _ n s e (after-coded-good .coded-good .ensures)) (else2 .if2 .left),
-      passed (after-queue-well .queue-well .ensures (s .inputs) (queue-read n s z input 8 refl _ e)) (else3 .if3 .left),
+      was-true (format-test _ n s e (after-coded-good .coded-good .ensures)) (else2 .if2 .left),
+      was-true (after-queue-well .queue-well .ensures (s .inputs) (queue-read n s z input 8 refl _ e)) (else3 .if3 .left),
     ))
 
 pub place-well-spec : {M : Type 1} → statement M

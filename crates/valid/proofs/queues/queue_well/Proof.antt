@@ -6,8 +6,8 @@ use Rattle.laws.specs.Lists.{distinct}
 use Rattle.laws.proofs.Tests.{and-fails, and-holds}
 use Rattle.model.specs.Device.{Queue}
 use Rattle.model.specs.Commands.{goodExtent}
-use Rattle.words.specs.Words.{queueWords}
-use Rattle.words.proofs.Records.{width-word, height-word}
+use Rattle.queue.specs.Words.{queueWords}
+use Rattle.queue.proofs.Records.{width-word, height-word}
 use Rattle.valid.proofs.Elements.{slots-numbers}
 use Rattle.valid.proofs.queues.queue_well.Statement.{statement}
 use Rattle.valid.proofs.queues.queue_well.Tie as tie

@@ -1,0 +1,40 @@
+-- `completion::clear_answers` meets its contract: three runs of answers, one after the other.
+use mathlib.Core.Path.{refl}
+use mathlib.Core.List.{[], _∷_, _++_}
+use borrow.Author.Needs.{needs}
+use Rattle.model.specs.Device.{buffers}
+use Rattle.model.specs.Answers.{success}
+use Rattle.model.specs.Commands.{stoppedAnswers, drainAnswers, drainEnded}
+use Rattle.protocol.specs.QueueTypes.{queueTypeOf}
+use Rattle.answer.specs.Answer.{answerTo}
+use Rattle.answer.proofs.Laws.{wrote-plain}
+use Rattle.completion.proofs.Ends.{wrote-more}
+use Rattle.completion.proofs.stops.clear_answers.Statement.{statement}
+use Rattle.completion.proofs.stops.clear_answers.Tie as tie
+
+stop-queue-requires : tie.Need-stop-queue-requires
+stop-queue-requires c κs = search needs
+
+ended-answer-requires : tie.Need-ended-answer-requires
+ended-answer-requires c κs = search needs
+
+put-plain-requires : tie.Need-put-plain-requires
+put-plain-requires c κs = search needs
+
+same-length : tie.Need-same-length
+same-length c = search needs
+
+returns : tie.Need-returns
+returns c n b h =
+    let after-put-plain = c .before .before in let after-ended-answer = after-put-plain .before .before .before .before in
+    let after-stop-queue = after-ended-answer .before .before .before .before in let start = after-stop-queue .before .before .before .before in
+    let q = queueTypeOf (start .args .queue) in
+    let ended = drainAnswers (start .args .stream) (drainEnded q b) in
+    let itself = answerTo (start .args .ticket) (start .args .stream) success ∷ [] in
+    wrote-more (stoppedAnswers (start .args .stream) q (buffers q b)) (ended ++ itself) (after-stop-queue .stop-queue .ensures .1 n b h)
+    (wrote-more ended itself (after-ended-answer .ended-answer .ensures .1 n b h) (wrote-plain (start .args .ticket) (start .args .stream) 0x0200 success refl (after-put-plain .put-plain .ensures)))
+
+pub clear-answers-spec : {M : Type 1} → statement M
+clear-answers-spec =
+    tie.close
+    (tie.spec stop-queue-requires ended-answer-requires put-plain-requires same-length returns)

@@ -1,0 +1,64 @@
+-- `completion::clear_words` meets its contract: the drain first, then the queue.
+use mathlib.Core.Path.{ap, _∙_}
+use borrow.Author.Needs.{needs}
+use Rattle.model.specs.Device.{Queue, occupied, queueOf, withQueue, withDrain}
+use Rattle.model.specs.Commands.{drainLeft, cleared}
+use Rattle.table.specs.Blocks.{placeWords}
+use Rattle.protocol.specs.QueueTypes.{queueTypeOf}
+use Rattle.table.proofs.Records.{queue-sized, queue-lent}
+use Rattle.stream.proofs.Steps.{slot-count}
+use Rattle.completion.proofs.Ends.{queue-kept}
+use Rattle.completion.proofs.stops.clear_words.Statement.{statement}
+use Rattle.completion.proofs.stops.clear_words.Tie as tie
+
+end-drain-requires : tie.Need-end-drain-requires
+end-drain-requires c κs = search needs
+
+queue-start-requires : tie.Need-queue-start-requires
+queue-start-requires c κs = search needs
+
+add-clear-slots : tie.Need-add-clear-slots
+add-clear-slots c = search needs
+
+mul-clear-slots : tie.Need-mul-clear-slots
+mul-clear-slots c = search needs
+
+sub-clear-slots : tie.Need-sub-clear-slots
+sub-clear-slots c = search needs
+
+part-clear-slots-start : tie.Need-part-clear-slots-start
+part-clear-slots-start c = search needs
+
+part-clear-slots-end : tie.Need-part-clear-slots-end
+part-clear-slots-end c = search needs
+
+clear-slots-requires : tie.Need-clear-slots-requires
+clear-slots-requires c κs = search needs
+
+same-length : tie.Need-same-length
+same-length c = search needs
+
+returns : tie.Need-returns
+returns c n b h =
+    let after-clear-slots = c .before .before in let after-queue-start = after-clear-slots .before .before in
+    let after-end-drain = after-queue-start .before .before .before in let start = after-end-drain .before .before .before in
+    let q = queueTypeOf (start .args .queue) in
+    let x = withDrain (drainLeft q b) b in
+    queue-lent n x (queue-sized n b (slot-count h)) q _ (after-queue-start .queue-start .ensures .1) _ (after-end-drain .end-drain .ensures n b (h .held)) _
+    (cleared (queueOf q x)) (after-clear-slots .clear-slots .ensures (queueOf q x))
+    ∙ ap (λ (y : Queue). placeWords (occupied n (withQueue q (cleared y) x))) (queue-kept q (drainLeft q b) b)
+
+pub clear-words-spec : {M : Type 1} → statement M
+clear-words-spec =
+    tie.close
+    (tie.spec
+    end-drain-requires
+    queue-start-requires
+    add-clear-slots
+    mul-clear-slots
+    sub-clear-slots
+    part-clear-slots-start
+    part-clear-slots-end
+    clear-slots-requires
+    same-length
+    returns)

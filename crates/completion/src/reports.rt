@@ -1,0 +1,162 @@
+// The back end's reports: each ends the wait of one buffer or of a drain.
+ghost use mathlib.Core.Path.{_≡_};
+ghost use mathlib.Core.Bool.{true, false};
+ghost use mathlib.Core.Option.{some};
+ghost use Prim.Native.Nat.{ℕ, _+_, _<_, _≤_};
+ghost use lib.ListN.{length};
+ghost use Rattle.model.specs.Device.{Queue, Stream, Buffer, queueOf, queuedIn, bufferOf};
+ghost use Rattle.model.specs.Reports.{timestampOf, badEos, finishBuffer, onFinish, onDrained};
+ghost use Rattle.queue.specs.Words.{queueWords};
+ghost use Rattle.queue.specs.Search.{slotAt, isQueued, timestampIn, findResource};
+ghost use Rattle.protocol.specs.QueueTypes.{queueTypeOf};
+ghost use Rattle.stream.specs.Replied.{BlockOf};
+ghost use Rattle.completion.specs.Done.{Done};
+use protocol::BAD_FLAGS;
+use protocol::EOS;
+use protocol::Named;
+use protocol::OK;
+use protocol::Outcome;
+use protocol::QueueType;
+use protocol::UNEXPECTED_REPORT;
+use protocol::refused;
+use queue::Found;
+use queue::QUEUE_WORDS;
+use table::DrainState;
+
+// A drained report: a pending drain is answered where no input is Queued.
+pub fn drained(block: &mut [u32], stream: u32, room: &mut [u8]) -> Outcome
+    requires { ⌜ (length (now block) ≡ 512) × (1056 ≤ length (now room)) ⌝ }
+    ensures { λ r. ⌜ ((b : Stream) → BlockOf stream (now (block .entry)) b → Done stream (onDrained stream (some b)) (now (block .exit)) (now (room .entry)) (now (room .exit)) (r .refusal) (r .written)) ⌝ }
+{
+    let drain = table::pending_drain(block);
+    let DrainState::Draining(ticket) = drain else {
+        return refused(UNEXPECTED_REPORT);
+    };
+    let at = table::queue_start(QueueType::Input);
+    if queue::any_queued(&block[at..at + QUEUE_WORDS]) {
+        return refused(UNEXPECTED_REPORT);
+    }
+    table::drop_drain(block);
+    let written = answer::put_plain(room, 0, ticket, OK, stream);
+    Outcome {
+        refusal: 0,
+        written: written as u32,
+    }
+}
+
+// A finish report whose flags are known: a Queued buffer is answered and becomes Dequeued.
+pub fn finish(
+    block: &mut [u32],
+    stream: u32,
+    queue: u32,
+    resource: u32,
+    flags: u32,
+    ts: u64,
+    room: &mut [u8],
+) -> Outcome
+    requires { ⌜ (length (now block) ≡ 512) × (flags ≤ 3) × (1056 ≤ length (now room)) ⌝ }
+    ensures { λ r. ⌜ ((b : Stream) → BlockOf stream (now (block .entry)) b → Done stream (onFinish stream queue resource flags ts (some b)) (now (block .exit)) (now (room .entry)) (now (room .exit)) (r .refusal) (r .written)) ⌝ }
+{
+    let named = protocol::queue_named(queue);
+    let Named::One(q) = named else {
+        return refused(UNEXPECTED_REPORT);
+    };
+    finish_buffer(block, q, stream, resource, flags, ts, room)
+}
+
+// A finish of the resource of that number in a queue.
+fn finish_buffer(
+    block: &mut [u32],
+    queue: QueueType,
+    stream: u32,
+    resource: u32,
+    flags: u32,
+    timestamp: u64,
+    room: &mut [u8],
+) -> Outcome
+    requires { ⌜ (length (now block) ≡ 512) × (1056 ≤ length (now room)) ⌝ }
+    ensures { λ r. ⌜ ((b : Stream) → BlockOf stream (now (block .entry)) b → Done stream (finishBuffer stream resource flags timestamp b (queueTypeOf queue) (bufferOf resource (queuedIn (queueOf (queueTypeOf queue) b .slots)))) (now (block .exit)) (now (room .entry)) (now (room .exit)) (r .refusal) (r .written)) ⌝ }
+{
+    let at = table::queue_start(queue);
+    let found = queue::find_resource(&block[at..at + QUEUE_WORDS], resource);
+    let Found::At(k) = found else {
+        return refused(UNEXPECTED_REPORT);
+    };
+    finish_slot(block, queue, k, stream, flags, timestamp, room)
+}
+
+// A finish of the resource in slot k of a queue.
+fn finish_slot(
+    block: &mut [u32],
+    queue: QueueType,
+    k: usize,
+    stream: u32,
+    flags: u32,
+    timestamp: u64,
+    room: &mut [u8],
+) -> Outcome
+    requires { ⌜ (length (now block) ≡ 512) × (k < 16) × (1056 ≤ length (now room)) ⌝ }
+    ensures { λ r. ⌜ ((b : Stream) (m : ℕ) → BlockOf stream (now (block .entry)) b → findResource m (queueOf (queueTypeOf queue) b .slots) ≡ some k → Done stream (finishBuffer stream m flags timestamp b (queueTypeOf queue) (bufferOf m (queuedIn (queueOf (queueTypeOf queue) b .slots)))) (now (block .exit)) (now (room .entry)) (now (room .exit)) (r .refusal) (r .written)) ⌝ }
+{
+    let at = table::queue_start(queue);
+    if !queue::slot_queued(&block[at..at + QUEUE_WORDS], k) {
+        return refused(UNEXPECTED_REPORT);
+    }
+    if bad_eos(block, queue, flags) {
+        return refused(BAD_FLAGS);
+    }
+    answer_slot(block, queue, k, stream, flags, timestamp, room)
+}
+
+// Whether the flags have EOS on an input, or with no drain pending.
+fn bad_eos(block: &[u32], queue: QueueType, flags: u32) -> bool
+    requires { ⌜ length (now block) ≡ 512 ⌝ }
+    ensures { λ r. ⌜ ((n : ℕ) (b : Stream) → BlockOf n (now (block .entry)) b → r ≡ badEos flags (queueTypeOf queue) b) ⌝ }
+{
+    if flags < EOS {
+        return false;
+    }
+    let QueueType::Output = queue else {
+        return true;
+    };
+    let drain = table::pending_drain(block);
+    let DrainState::Draining(_) = drain else {
+        return true;
+    };
+    false
+}
+
+// Answers the Queued buffer in slot k, which becomes Dequeued.
+fn answer_slot(
+    block: &mut [u32],
+    queue: QueueType,
+    k: usize,
+    stream: u32,
+    flags: u32,
+    timestamp: u64,
+    room: &mut [u8],
+) -> Outcome
+    requires { ⌜ (length (now block) ≡ 512) × (k < 16) × (1056 ≤ length (now room)) ⌝ }
+    ensures { λ r. ⌜ ((b : Stream) (m : ℕ) → BlockOf stream (now (block .entry)) b → findResource m (queueOf (queueTypeOf queue) b .slots) ≡ some k → isQueued (slotAt k (queueOf (queueTypeOf queue) b .slots)) ≡ true → badEos flags (queueTypeOf queue) b ≡ false → Done stream (finishBuffer stream m flags timestamp b (queueTypeOf queue) (bufferOf m (queuedIn (queueOf (queueTypeOf queue) b .slots)))) (now (block .exit)) (now (room .entry)) (now (room .exit)) (r .refusal) (r .written)) ⌝ }
+{
+    let at = table::queue_start(queue);
+    let ticket = queue::slot_ticket(&block[at..at + QUEUE_WORDS], k);
+    let told = timestamp_in(&block[at..at + QUEUE_WORDS], queue, k, timestamp);
+    queue::set_dequeued(&mut block[at..at + QUEUE_WORDS], k);
+    let written = answer::put_buffer(room, 0, ticket, stream, told, flags);
+    Outcome {
+        refusal: 0,
+        written: written as u32,
+    }
+}
+
+// The timestamp that a finish answers with: an input's own, an output's the report's.
+fn timestamp_in(q: &[u32], queue: QueueType, k: usize, timestamp: u64) -> u64
+    requires { ⌜ (length (now q) ≡ 84) × (k < 16) ⌝ }
+    ensures { λ r. ⌜ ((Q : Queue) (i : Buffer) → now (q .entry) ≡ queueWords Q → i .timestamp ≡ timestampIn (slotAt k (Q .slots)) → r ≡ timestampOf (queueTypeOf queue) i timestamp) ⌝ }
+{
+    let QueueType::Input = queue else {
+        return timestamp;
+    };
+    queue::slot_timestamp(q, k)
+}

@@ -1,0 +1,158 @@
+-- What serving a step comes to on the words of a device: the words stay, or one block of them is changed.
+use mathlib.Core.Path.{_≡_, refl, sym, ap, _∙_, subst}
+use mathlib.Core.Bool.{true}
+use mathlib.Core.Option.{Option, none, some}
+use mathlib.Core.List.{List, [], _∷_}
+use Prim.Native.Nat.{ℕ, _+_, _*_, _-_, _<_}
+use native.Mathlib.Nat.{add-sub-cancel-left}
+use lib.ListN.{length, take}
+use Rattle.laws.specs.Parts.{part, withPart}
+use Rattle.laws.specs.Lists.{allOf}
+use Rattle.laws.specs.Stores.{Wrote}
+use Rattle.laws.proofs.Tests.{and-right}
+use Rattle.laws.proofs.Lists.{all-getD}
+use Rattle.laws.proofs.Stores.{wrote-none}
+use Rattle.model.specs.Device.{Stream, Place, vacant, occupied, Device, recordOf, noPlace, place, withPlaces, putBack}
+use Rattle.model.specs.Answers.{ErrorCode, code, success, failure}
+use Rattle.model.specs.Replies.{Reply, refuse, reply, fail}
+use Rattle.model.specs.Commands.{Surroundings}
+use Rattle.model.specs.Steps.{Act, command, around, serve}
+use Rattle.model.specs.WellFormed.{goodStream, goodPlace, u32}
+use Rattle.model.proofs.Places.{put-self}
+use Rattle.model.proofs.WellFormed.{GoodPlaces, well-places}
+use Rattle.model.proofs.Refusals.{command-answers}
+use Rattle.table.specs.Blocks.{placeWords, blocks, blocksSize, encode}
+use Rattle.table.specs.Search.{findStream, findVacant, hasAllSlots}
+use Rattle.table.proofs.Theorems.{well-eight, well-sized}
+use Rattle.table.proofs.Records.{blocks-front, block-part, block-lent}
+use Rattle.table.proofs.Bridge.{LiveAt, stream-found, stream-missing, stream-put, VacantAt, vacant-found, vacant-missing, vacant-put}
+use Rattle.queue.specs.Found.{foundAt}
+use Rattle.queue.specs.declared.Found.{Found}
+use Rattle.queue.specs.declared.Found.the-variants.{At, Nothing}
+use Rattle.answer.specs.Answer.{answerTo, plainBytes}
+use Rattle.answer.proofs.Laws.{wrote-plain}
+use Rattle.stream.specs.Replied.{BlockOf, LiveBlock, requestTo, Replied}
+use Rattle.completion.specs.Done.{Done}
+use Rattle.device.specs.Served.{Encodes, replyOf, Served}
+
+module _ {words : List ℕ} {d : Device} (h : Encodes words d) where
+  good-places : GoodPlaces (d .places)
+  good-places = well-places d (h .good)
+
+  sizes : allOf hasAllSlots (d .places) ≡ true
+  sizes = well-sized d (h .good)
+
+  eight : length (d .places) ≡ 8
+  eight = well-eight d (h .good)
+
+  -- the blocks are looked at
+  pub looked : {A : Type 0} (P : List Place → A) (r : A) → ((ps : List Place) → allOf hasAllSlots ps ≡ true → take blocksSize words ≡ blocks ps → r ≡ P ps) → r ≡ P (d .places)
+  looked P r look = look (d .places) sizes (ap (take blocksSize) (h .held) ∙ blocks-front d sizes eight)
+
+  -- The words stay
+
+  stays : (n : ℕ) → words ≡ encode (putBack n (recordOf n (d .places)) d)
+  stays n = h .held ∙ ap (λ ps. encode (withPlaces ps d)) (sym (put-self n (d .places) (good-places .apart)))
+
+  -- an error to a command
+  pub error-served : {room room′ : List ℕ} {written : ℕ} (n t : ℕ) (f : List ℕ) (e : ErrorCode)
+      → replyOf d n (command t f) ≡ fail (record { stream = n; ticket = t; frame = f; self = recordOf n (d .places) }) e
+      → Wrote room room′ 0 written (plainBytes t (code e) n) → Served d n (command t f) words room room′ 0 written
+  error-served n t f e is w = record {
+    refusal-is = sym (ap (λ (v : Reply). v .refusal) is);
+    words = rw is (stays n);
+    bytes = rw is (wrote-plain t n (code e) (failure e) refl w);
+  }
+
+  -- a report that is refused with k
+  pub denied : (room : List ℕ) (n : ℕ) (a : Act) (k : ℕ) {refusal written : ℕ} → (refusal ≡ k) × (written ≡ 0) → replyOf d n a ≡ refuse k (recordOf n (d .places))
+      → Served d n a words room room refusal written
+  denied room n a k told is = record {
+    refusal-is = told .0 ∙ sym (ap (λ (v : Reply). v .refusal) is);
+    words = rw is (stays n);
+    bytes = rw (is, told .1) (wrote-none room 0);
+  }
+
+  -- The block of a live stream is lent
+
+  module _ (n k : ℕ) (k8 : k < 8) (found : findStream n (d .places) ≡ some k) where
+    at : LiveAt n k (d .places)
+    at = stream-found n (d .places) k found
+
+    good : goodStream (at .stream) ≡ true
+    good = and-right (u32 n) _ (subst (λ (p : Place). goodPlace p ≡ true) (at .at) (all-getD goodPlace (d .places) k vacant refl (good-places .each)))
+
+    holds : BlockOf n (part (512 * k) (512 * k + 512 - 512 * k) words) (at .stream)
+    holds = record { good = good; held = rw (add-sub-cancel-left (512 * k) 512) (block-part d sizes eight words k k8 (h .held)) ∙ ap placeWords (at .at) }
+
+    pub block-live : LiveBlock n (part (512 * k) (512 * k + 512 - 512 * k) words)
+    block-live = record { stream = at .stream; holds = holds }
+
+    pub in-block : {ys room room′ : List ℕ} {refusal written : ℕ} (a : Act)
+        → ((b : Stream) → BlockOf n (part (512 * k) (512 * k + 512 - 512 * k) words) b → Done n (serve (around d n) n (some b) a) ys room room′ refusal written)
+        → Served d n a (withPart (512 * k) (512 * k + 512 - 512 * k) words ys) room room′ refusal written
+    in-block {ys} {room} {room′} {refusal} {written} a done =
+        let b = at .stream in
+        let x = done b holds in
+        subst (λ (o : Option Stream). Done n (serve (around d n) n o a) ys room room′ refusal written → Served d n a (withPart (512 * k) (512 * k + 512 - 512 * k) words ys) room room′ refusal written)
+        (at .known)
+        (λ y. record {
+          refusal-is = y .refusal-is;
+          words =
+              block-lent d sizes eight words k k8 (h .held) ys (place n (replyOf d n a .next)) (λ _. y .replied .words)
+              ∙ ap (λ ps. encode (withPlaces ps d)) (sym (stream-put n k (d .places) at (good-places .apart) (replyOf d n a .next)));
+          bytes = y .replied .bytes;
+        })
+        x
+
+  -- A new stream is put into the lowest vacant place
+
+  module _ (n k : ℕ) (k8 : k < 8) (new : recordOf n (d .places) ≡ none) (found : findVacant (d .places) ≡ some k) where
+    free : VacantAt k (d .places)
+    free = vacant-found (d .places) k found
+
+    pub in-vacant : {ys room room′ : List ℕ} {written : ℕ} (t : ℕ) (f : List ℕ) (b : Stream)
+        → replyOf d n (command t f) ≡ reply (answerTo t n success ∷ []) (some b)
+        → (part (512 * k) (512 * k + 512 - 512 * k) words ≡ placeWords vacant → ys ≡ placeWords (occupied n b))
+        → Wrote room room′ 0 written (plainBytes t 0x0200 n) → Served d n (command t f) (withPart (512 * k) (512 * k + 512 - 512 * k) words ys) room room′ 0 written
+    in-vacant {ys} t f b is made w = record {
+      refusal-is = sym (ap (λ (v : Reply). v .refusal) is);
+      words = rw is
+          (block-lent d sizes eight words k k8 (h .held) ys (occupied n b) (λ e. made (e ∙ ap placeWords (free .at)))
+          ∙ ap (λ ps. encode (withPlaces ps d)) (sym (vacant-put n k b (d .places) free new)));
+      bytes = rw is (wrote-plain t n 0x0200 success refl w);
+    }
+
+-- the stream number as the frame has it
+pub of-stream : {d : Device} {n m : ℕ} {a : Act} {left room room′ : List ℕ} {refusal written : ℕ} → n ≡ m → Served d n a left room room′ refusal written
+    → Served d m a left room room′ refusal written
+of-stream {d} {a = a} {left} {room} {room′} {refusal} {written} e x = subst (λ (k : ℕ). Served d k a left room room′ refusal written) e x
+
+-- a command's reply has no refusal number
+pub answered-command : {n : ℕ} {block room room′ : List ℕ} {written : ℕ} (around : Surroundings) (b : Stream) (t : ℕ) (f : List ℕ)
+    → Replied n (serve around n (some b) (command t f)) block room room′ written → Done n (serve around n (some b) (command t f)) block room room′ 0 written
+unfolding serve
+answered-command {n} around b t f x = record { refusal-is = sym (command-answers around (requestTo n t f b)); replied = x }
+
+-- a reply by another name
+pub replied-as : {n r : ℕ} {v v′ : Reply} {w room room′ : List ℕ} → v′ ≡ v → Replied n v w room room′ r → Replied n v′ w room room′ r
+replied-as {n} {r} {w = w} {room = room} {room′ = room′} is x = subst (λ v. Replied n v w room room′ r) (sym is) x
+
+-- what a search of the places found
+module _ {words : List ℕ} {d : Device} (h : Encodes words d) {r : Found} where
+  module _ {n : ℕ} (look : (d : Device) → Encodes words d → foundAt r ≡ findStream n (d .places)) where
+    pub was-found : (k : ℕ) → r ≡ At k → findStream n (d .places) ≡ some k
+    was-found k e = sym (look d h) ∙ ap foundAt e
+
+    pub was-missing : r ≡ Nothing → recordOf n (d .places) ≡ none
+    was-missing e = stream-missing n (d .places) (sym (look d h) ∙ ap foundAt e)
+
+    pub was-live : (k : ℕ) → r ≡ At k → (b : Stream) × (recordOf n (d .places) ≡ some b)
+    was-live k e = let a = stream-found n (d .places) k (was-found k e) in (a .stream, a .known)
+
+  module _ (look : (d : Device) → Encodes words d → foundAt r ≡ findVacant (d .places)) where
+    pub was-vacant : (k : ℕ) → r ≡ At k → findVacant (d .places) ≡ some k
+    was-vacant k e = sym (look d h) ∙ ap foundAt e
+
+    pub was-full : r ≡ Nothing → noPlace (d .places) ≡ true
+    was-full e = vacant-missing (d .places) (sym (look d h) ∙ ap foundAt e)

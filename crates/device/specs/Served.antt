@@ -1,0 +1,39 @@
+-- What a step does to the words of a device and to the answer room, behind the host's first tests.
+use Prim.Native.Nat.{ℕ}
+use mathlib.Core.Path.{_≡_}
+use mathlib.Core.Bool.{true}
+use mathlib.Core.List.{List}
+use lib.ListN.{length}
+use Rattle.laws.specs.Stores.{Wrote}
+use Rattle.model.specs.Device.{Device, recordOf, putBack}
+use Rattle.model.specs.Frames.{commandOf, commandType}
+use Rattle.model.specs.Answers.{bytesOf}
+use Rattle.model.specs.Replies.{Reply}
+use Rattle.model.specs.Steps.{Act, around, serve}
+use Rattle.model.specs.WellFormed.{wellFormed}
+use Rattle.table.specs.Blocks.{encode}
+use Rattle.frame.specs.Meant.{Verdict, verdict}
+
+-- the words are those of the well-formed device d
+pub record Encodes (words : List ℕ) (d : Device) : Type 0 where
+  pub good : wellFormed d ≡ true
+  pub held : words ≡ encode d
+
+-- the words are those of some well-formed device
+pub record DeviceWords (words : List ℕ) : Type 0 where
+  pub device : Device
+  pub encodes : Encodes words device
+
+-- what the stream n of d replies to a step
+abbrev pub replyOf : Device → ℕ → Act → Reply
+replyOf d n a = serve (around d n) n (recordOf n (d .places)) a
+
+-- the step has its refusal number or 0, the reply's record is put back into the device, and its answers stand from the start of the room
+pub record Served (d : Device) (n : ℕ) (a : Act) (left room room′ : List ℕ) (refusal written : ℕ) : Type 0 where
+  pub refusal-is : refusal ≡ replyOf d n a .refusal
+  pub words : left ≡ encode (putBack n (replyOf d n a .next) d)
+  pub bytes : Wrote room room′ 0 written (bytesOf (replyOf d n a .answers))
+
+-- what the type and the length of a frame say
+abbrev pub verdictFor : List ℕ → Verdict
+verdictFor f = verdict (commandOf (commandType f)) (length f)

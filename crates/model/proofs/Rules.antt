@@ -1,0 +1,41 @@
+-- The table of commands, rule by rule.
+use Prim.Native.Nat.{ℕ}
+use mathlib.Core.Path.{_≡_, subst}
+use mathlib.Core.Option.{Option, none, some}
+use mathlib.Core.List.{List, [], _∷_}
+use lib.Dec.{eqb}
+use borrow.Author.Tests.{eqb-true}
+use Rattle.laws.proofs.Lists.{decide}
+use Rattle.model.specs.Device.{QueueType, input, output}
+use Rattle.model.specs.Frames.{CommandRule, commands, ruleOf, commandOf, queueNumber, queueNamed}
+
+-- what holds of every rule of a list
+abbrev pub Each : (CommandRule → Type 0) → List CommandRule → Type 0
+Each P [] = Unit {0}
+Each P (l ∷ ls) = P l × Each P ls
+
+pub each-rule : (P Q : CommandRule → Type 0) → ((l : CommandRule) → P l → Q l) → (ls : List CommandRule) → Each P ls → Each Q ls
+each-rule P Q h [] e = tt
+each-rule P Q h (l ∷ ls) e = (h l (e .0), each-rule P Q h ls (e .1))
+
+-- what holds of every rule with its type, and of every type without a rule, holds of every type
+by-rule : (P : ℕ → Option CommandRule → Type 0) (ls : List CommandRule) → Each (λ l. P (l .type) (some l)) ls → ((ty : ℕ) → P ty none) → (ty : ℕ) → P ty (ruleOf ty ls)
+by-rule P [] h unknown ty = unknown ty
+by-rule P (l ∷ ls) h unknown ty =
+    decide (eqb (l .type) ty)
+    (λ e. simp e (subst (λ (x : ℕ). P x (some l)) (eqb-true (l .type) ty e) (h .0)))
+    (λ e. simp e (by-rule P ls (h .1) unknown ty))
+
+pub by-type : (P : ℕ → Option CommandRule → Type 0) → Each (λ l. P (l .type) (some l)) commands → ((ty : ℕ) → P ty none) → (ty : ℕ) → P ty (commandOf ty)
+unfolding commandOf
+by-type P h unknown ty = by-rule P commands h unknown ty
+
+-- a number that names a queue is that queue's
+pub named-number : (n : ℕ) (q : QueueType) → queueNamed n ≡ some q → n ≡ queueNumber q
+unfolding queueNamed
+named-number n q e =
+    decide (eqb n 0x100)
+    (λ h. let z : some input ≡ some q = simp h at e in let w : input ≡ q = cc in subst (λ (x : QueueType). n ≡ queueNumber x) w (eqb-true n 0x100 h))
+    (λ h. decide (eqb n 0x101)
+    (λ k. let z : some output ≡ some q = simp (h, k) at e in let w : output ≡ q = cc in subst (λ (x : QueueType). n ≡ queueNumber x) w (eqb-true n 0x101 k))
+    (λ k. let z : none ≡ some q = simp (h, k) at e in cc))
