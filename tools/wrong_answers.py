@@ -43,7 +43,8 @@ def first_error(log):
             said = " ".join([place.group(2)] + [x.strip() for x in lines[i + 1 : i + 3] if x.startswith("  ")])
             differ = re.search(r"differ only where one has (.{1,60}?) \(expected\) and the other has (.{1,60}?) \(found\)", said)
             first = re.search(r"first differ where one has (.{1,60}?) \(expected\).*?and the other has (.{1,60}?) \(found\)", said)
-            both = differ or first
+            whole = re.search(r"the two types are (.{1,60}?) \(expected\) and (.{1,60}?) \(found\)", said)
+            both = differ or first or whole
             short = f"{both.group(1)} expected, {both.group(2)} found" if both else said[:160]
             return f"{place.group(1)}: {short}", bool(SHAPES.search(said))
         place = re.search(r"((?:src)/\S+?:\d+:\d+): (it is not proved that .*)", line)

@@ -363,7 +363,8 @@ module _ (n t : ℕ) (f : List ℕ) (b : Stream) (s : Sane (some b)) where
   freed-live =
       in-queue 0x0106 destroyAll (λ q e. walk (FitsLive 0x0106) c _ (bad 0x0106) (λ h.
       let x = queueOf q b .slots in
-      quiet q (withSlots (freeAll x) (queueOf q b)) (queued-free x ∙ sym (empty-is _ (not-false _ h)))))
+      let none-queued : not (isEmpty (queuedIn x)) ≡ false = h in
+      quiet q (withSlots (freeAll x) (queueOf q b)) (queued-free x ∙ sym (empty-is _ (not-false _ none-queued)))))
 
   got-live : FitsLive 0x0108 (onLive (toQueue getParameters) c b)
   unfolding onGet

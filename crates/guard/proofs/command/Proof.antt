@@ -1,7 +1,6 @@
 -- `guard::command` meets its contract: the first tests, a whole header, the step.
 use mathlib.Core.Path.{refl}
 use Prim.Native.Nat.{_<_}
-use lib.ListN.{length}
 use native.Mathlib.Omega.{arith}
 use borrow.Author.Tests.{lt-ltb, le-ltb}
 use lib.Seq.{length-take-le}
@@ -41,7 +40,7 @@ returns-2 c =
     let start = after-host-refusal .before .before .before .before .before in
     let a = start .args in
     unnamed (a .table .now) (a .answers .now) (command (a .ticket) (a .frame .now)) (after-host-refusal .host-refusal .ensures) (else1 .if1 .left)
-    (let short : length (a .frame .now) < headerBytes = then2 .if2 .taken in rw (lt-ltb _ _ short) refl) (c .refused2 .ensures)
+    (let short : _ < headerBytes = then2 .if2 .taken in rw (lt-ltb _ _ short) refl) (c .refused2 .ensures)
 
 sub-command : tie.Need-sub-command
 sub-command c = search needs

@@ -1,7 +1,6 @@
 -- `guard::host_refusal` meets its contract: only the used words count for validity.
 use mathlib.Core.Path.{sym, _∙_}
 use Prim.Native.Nat.{_<_, _≤_}
-use lib.ListN.{length}
 use borrow.Author.Tests.{lt-ltb, le-ltb, not-true, not-false}
 use Rattle.model.specs.Numbers.{tableWords, answerRoom}
 use Rattle.model.specs.Steps.{hostRefusal}
@@ -13,14 +12,13 @@ use Rattle.guard.proofs.host_refusal.Tie as tie
 returns : tie.Need-returns
 unfolding hostRefusal
 returns c =
-    let short : length (c .before .before .args .table .now) < tableWords = c .if1 .taken in rw (lt-ltb _ _ short)
+    let short : _ < tableWords = c .if1 .taken in rw (lt-ltb _ _ short)
 
 returns-2 : tie.Need-returns-2
 unfolding hostRefusal
 returns-2 c =
-    let start = c .before .before .before in
-    let long : tableWords ≤ length (start .args .table .now) = c .before .if1 .left in
-    let short : start .args .room < answerRoom = c .if2 .taken in
+    let long : tableWords ≤ _ = c .before .if1 .left in
+    let short : _ < answerRoom = c .if2 .taken in
     rw (le-ltb _ _ long, lt-ltb _ _ short)
 
 sub-valid : tie.Need-sub-valid

@@ -3,7 +3,7 @@ use mathlib.Core.List.{List, _++_}
 use mathlib.Core.Path.{sym, ap, _∙_}
 use Prim.Native.Nat.{ℕ, _<_}
 use lib.Seq.{length-take-le}
-use lib.ListN.{length, drop}
+use lib.ListN.{drop}
 use borrow.Author.Tests.{lt-ltb, le-ltb}
 use borrow.Author.Needs.{needs}
 use Rattle.table.proofs.Theorems.{fresh-is-zero}
@@ -17,7 +17,7 @@ use Rattle.table.proofs.fresh.Tie as tie
 returns : tie.Need-returns
 unfolding freshen
 returns c =
-    let short : length (c .before .before .args .table .now) < tableWords = c .if1 .taken in rw (lt-ltb _ _ short)
+    let short : _ < tableWords = c .if1 .taken in rw (lt-ltb _ _ short)
 
 sub-fill-zero : tie.Need-sub-fill-zero
 sub-fill-zero c = search needs
