@@ -11,6 +11,8 @@ mod independent;
 
 use std::collections::BTreeMap;
 use std::io::{Read, Write};
+use std::os::fd::OwnedFd;
+use std::os::unix::net::UnixStream;
 use std::path::{Path, PathBuf};
 use std::process::{Child, ChildStdin, Command, ExitStatus, Stdio};
 use std::thread;
@@ -209,6 +211,52 @@ fn memory_does_not_grow() {
     println!("peak memory in KiB: {peaks:?}");
     run.end().expect("the program ends well");
     assert!(peaks[2] <= peaks[0] + 256, "memory grows with the input: {peaks:?} KiB");
+}
+
+/// A read that fails is no end of the log: the lines that ended before it are answered, the half line is
+/// not, and standard error says so. A socket whose other side closes with bytes unread fails so, once
+/// what was sent before has been read.
+#[test]
+fn a_failed_read_is_no_end() {
+    for (sent, answered) in [
+        ("", ""),
+        ("0207000000", ""),
+        ("0207000000\n", "ff05\n"),
+        ("\n0207000000\n020", "ff07\nff05\n"),
+    ] {
+        let (ours, theirs) = UnixStream::pair().expect("a pair of sockets");
+        (&theirs).write_all(b"unread").expect("the socket takes it");
+        (&ours).write_all(sent.as_bytes()).expect("the socket takes it");
+        drop(ours);
+        let run = Command::new(program()).stdin(Stdio::from(OwnedFd::from(theirs))).output();
+        let run = run.expect("the program runs");
+        assert_eq!(text(&run.stdout), answered, "{sent:?}");
+        assert_eq!(text(&run.stderr), "video_log: the log cannot be read to its end\n", "{sent:?}");
+        assert!(run.status.success(), "{sent:?}: {}", run.status);
+    }
+}
+
+/// A write that fails ends the program, while the input is still open, and standard error says so.
+#[test]
+fn a_failed_write_ends_the_program() {
+    for (sent, open) in [("\n", true), ("\n", false), ("0", false)] {
+        let full = fs::OpenOptions::new().write(true).open("/dev/full").expect("/dev/full");
+        let mut child = Command::new(program())
+            .stdin(Stdio::piped())
+            .stdout(full)
+            .stderr(Stdio::piped())
+            .spawn()
+            .expect("the program runs");
+        let mut input = child.stdin.take().expect("a pipe");
+        input.write_all(sent.as_bytes()).expect("the program reads");
+        let input = open.then_some(input);
+        let errors = read_all(child.stderr.take().expect("a pipe"));
+        let status = wait(child).expect("the program ends");
+        drop(input);
+        let said = errors.join().expect("standard error");
+        assert_eq!(text(&said), "video_log: the answers cannot be written\n", "{sent:?}, {open}");
+        assert!(status.success(), "{sent:?}, {open}: {status}");
+    }
 }
 
 /// Each slip of the log program is caught by these logs, and the program without one passes.
