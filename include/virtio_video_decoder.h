@@ -323,11 +323,11 @@ enum virtio_video_refusal {
 	/* the command has no whole header */
 	VIRTIO_VIDEO_REFUSAL_SHORT_COMMAND = 4,
 	/*
-	 * finish: that buffer is not Queued now. drained: no such stream, no drain is owed,
+	 * finish: that buffer is not Queued now. drained: no such stream, no drain is pending,
 	 * or an input is still Queued
 	 */
 	VIRTIO_VIDEO_REFUSAL_UNEXPECTED_REPORT = 5,
-	/* flags other than ERR and EOS; EOS on an input, or with no drain owed */
+	/* flags other than ERR and EOS; EOS on an input, or with no drain pending */
 	VIRTIO_VIDEO_REFUSAL_BAD_FLAGS = 6,
 };
 

@@ -128,7 +128,7 @@ impl Decoder {
         &self.table
     }
 
-    /// Makes this a device without streams, as at a reset of the virtio device. What it still owed
+    /// Makes this a device without streams, as at a reset of the virtio device. What is still pending
     /// is not answered.
     pub fn reset(&mut self) {
         let refusal = ffi::fresh(self.table.as_mut_slice());

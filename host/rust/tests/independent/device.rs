@@ -368,10 +368,10 @@ impl Device {
         }
         let mut answers = Answers(Vec::new());
         if let Some(stream) = stream {
-            let owed = stream.drain;
+            let pending = stream.drain;
             stream.stop_drain(&mut answers);
             if slip == Some(Slip::DrainedKeepsDrain) {
-                stream.drain = owed;
+                stream.drain = pending;
             }
         }
         Done { refusal: 0, written: answers.0, why: None }

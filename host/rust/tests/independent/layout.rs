@@ -94,16 +94,16 @@ fn read_place(block: &[u32], slip: Option<Slip>) -> Result<Option<Stream>, Broke
         return Ok(None);
     }
     let coded_format = block[2];
-    let owed = block[3] != 0;
+    let pending = block[3] != 0;
     ask(block[3] <= 1, Broken::Drain, slip)?;
-    ask(owed || block[4] == 0, Broken::DrainTicket, slip)?;
+    ask(pending || block[4] == 0, Broken::DrainTicket, slip)?;
     ask(all_zero(&block[5..INPUT_AT]), Broken::Head, slip)?;
     ask(all_zero(&block[TAIL_AT..]), Broken::Tail, slip)?;
     ask((0x1000..=0x1005).contains(&coded_format), Broken::Format, slip)?;
     Ok(Some(Stream {
         number: block[1],
         coded_format,
-        drain: owed.then_some(block[4]),
+        drain: pending.then_some(block[4]),
         input: read_queue(&block[INPUT_AT..OUTPUT_AT], QueueType::Input, coded_format, slip)?,
         output: read_queue(&block[OUTPUT_AT..TAIL_AT], QueueType::Output, coded_format, slip)?,
     }))
