@@ -57,10 +57,12 @@ def of_rt(path):
 
 
 ours = collections.defaultdict(list)
-for path in sorted(glob.glob("crates/*/specs/**/*.antt", recursive=True) + glob.glob("crates/*/proofs/*.antt")):
+for path in sorted(glob.glob("crates/*/specs/**/*.antt", recursive=True) + glob.glob("crates/*/proofs/**/*.antt", recursive=True)):
     for name, kind, number in of_antt(path):
         if kind == "field" and "/proofs/" in path:
             continue
+        if path.endswith("/Proof.antt"):  # a function's own proof: what it exports is cited by nobody
+            kind = "private"
         ours[name].append((kind, f"{path}:{number}"))
 for path in sorted(glob.glob("crates/*/src/**/*.rt", recursive=True)):
     for name, kind, number in of_rt(path):

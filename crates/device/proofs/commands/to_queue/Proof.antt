@@ -15,8 +15,8 @@ use Rattle.device.proofs.commands.to_queue.Statement.{statement}
 use Rattle.device.proofs.commands.to_queue.Tie as tie
 
 -- the queue that the queue type n, read as k, was found to name
-named : {n k : ℕ} {r s : Named} → k ≡ n → queueMeant r ≡ queueNamed k → r ≡ s → queueNamed n ≡ queueMeant s
-named is e found = ap queueNamed (sym is) ∙ sym e ∙ ap queueMeant found
+queue-meant : {n k : ℕ} {r s : Named} → k ≡ n → queueMeant r ≡ queueNamed k → r ≡ s → queueNamed n ≡ queueMeant s
+queue-meant is e found = ap queueNamed (sym is) ∙ sym e ∙ ap queueMeant found
 
 queue-type-requires : tie.Need-queue-type-requires
 queue-type-requires c κs = search needs
@@ -44,7 +44,7 @@ returns c b h =
     let a = start .args in
     failed (a .ticket) invalidParameter h
     (ap (onNamed _ (requestTo (a .stream) (a .ticket) (now (a .frame)) b) b)
-    (named (after-queue-type .queue-type .ensures) (after-queue-named .queue-named .ensures) (after-enum-told .enum-told .given .1)))
+    (queue-meant (after-queue-type .queue-type .ensures) (after-queue-named .queue-named .ensures) (after-enum-told .enum-told .given .1)))
     (after-put-plain .put-plain .ensures)
 
 in-queue-requires : tie.Need-in-queue-requires
@@ -64,7 +64,7 @@ returns-2 c b h =
     let a = start .args in
     replied-as
     (ap (onNamed _ (requestTo (a .stream) (a .ticket) (now (a .frame)) b) b)
-    (named (after-queue-type .queue-type .ensures) (after-queue-named .queue-named .ensures) (after-named .named .given .1)))
+    (queue-meant (after-queue-type .queue-type .ensures) (after-queue-named .queue-named .ensures) (after-named .named .given .1)))
     (after-in-queue .in-queue .ensures b h)
 
 pub to-queue-spec : {M : Type 1} → statement M
