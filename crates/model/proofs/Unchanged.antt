@@ -15,7 +15,7 @@ use Rattle.laws.proofs.Same.{same-true}
 use Rattle.field.specs.Field.{field, littleEndian}
 use Rattle.model.specs.Numbers.{tableWords}
 use Rattle.model.specs.Device.{Stream, Device, recordOf, withPlaces, putBack}
-use Rattle.model.specs.Answers.{ErrorCode, failure, wordBytes, responseBytes, bytesOf, answersIn}
+use Rattle.model.specs.Answers.{ErrorCode, failure, responseBytes, bytesOf, answersIn}
 use Rattle.model.specs.Replies.{Reply, refuse}
 use Rattle.model.specs.Steps.{Act, command, finish, drained, Step, streamOf, serve, DeviceReply, refused, around, performOf, perform, hostRefusal, stepOn, accepted, eventOf}
 use Rattle.model.specs.WellFormed.{wellFormed, goodAct}

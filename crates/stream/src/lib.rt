@@ -164,11 +164,11 @@ pub fn destroy_all(
     requires { ⌜ (length (now block) ≡ 512) × (1056 ≤ length (now room)) ⌝ }
     ensures { λ r. ⌜ ((f : List ℕ) (b : Stream) → BlockOf stream (now (block .entry)) b → Replied stream (onDestroyAll (requestTo stream ticket f b) b (queueTypeOf q)) (now (block .exit)) (now (room .entry)) (now (room .exit)) r) ⌝ }
 {
-    let at = table::queue_start(q);
-    if queue::any_queued(&block[at..at + QUEUE_WORDS]) {
+    let from = table::queue_start(q);
+    if queue::any_queued(&block[from..from + QUEUE_WORDS]) {
         return answer::put_plain(room, 0, ticket, INVALID_OPERATION, stream);
     }
-    queue::free_all(&mut block[at..at + QUEUE_WORDS]);
+    queue::free_all(&mut block[from..from + QUEUE_WORDS]);
     answer::put_plain(room, 0, ticket, OK, stream)
 }
 

@@ -4,7 +4,7 @@ use mathlib.Core.Option.{Option, none, some}
 use mathlib.Core.List.{List, _∷_, _++_, append-assoc}
 use Prim.Native.Nat.{ℕ}
 use native.Mathlib.Omega.{arith}
-use lib.ListN.{length, getD, set, length-append, length-set}
+use lib.ListN.{length, getD, set, length-append}
 use borrow.Author.Tests.{eqb-false}
 use Rattle.laws.specs.Parts.{part, withPart, zeros, pieces}
 use Rattle.laws.proofs.Parts.{zero-length, zero-at, zeros-append, part-mid, withPart-mid}
@@ -84,9 +84,6 @@ four = ap (λ (x : List ℕ). zeros 8 ++ (zeros 84 ++ x)) (zeros-append 84 336) 
 -- a block with a live stream's first words
 abbrev pub headed : List ℕ → ℕ → ℕ → List ℕ
 headed l n f = set (set (set l 0 1) 1 n) 2 f
-
-pub headed-length : (l : List ℕ) (n f : ℕ) → length (headed l n f) ≡ length l
-headed-length l n f = simp length-set
 
 put-head : (r : List ℕ) (n f : ℕ) → headed (zeros 8 ++ r) n f ≡ headWords n f none ++ r
 unfolding zeros headWords

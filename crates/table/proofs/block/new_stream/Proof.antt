@@ -3,8 +3,7 @@ use mathlib.Core.Path.{_∙_}
 use native.Mathlib.Omega.{arith}
 use lib.ListN.{length-set}
 use borrow.Author.Needs.{needs}
-use Rattle.laws.specs.Parts.{withPart}
-use Rattle.table.proofs.Heads.{headed-length, new-block}
+use Rattle.table.proofs.Heads.{new-block}
 use Rattle.table.proofs.block.new_stream.Statement.{statement}
 use Rattle.table.proofs.block.new_stream.Tie as tie
 
@@ -44,11 +43,7 @@ slice-write-b-3 c = simp length-set (omega arith)
 same-length : tie.Need-same-length
 same-length c =
     let after-b2 = c .before in let after-new-queue2 = after-b2 .before in let after-b = after-new-queue2 .before .before .before in
-    let after-new-queue = after-b .before in let start = after-new-queue .before .before .before in
-    let a = start .args in
-    let q = after-new-queue .new-queue .last .0 in
-    let r = after-new-queue2 .new-queue2 .last .0 in
-    headed-length (withPart 92 84 (withPart 8 84 (a .b .now) q) r) (a .number) (a .format) ∙ after-b2 .b2 .given .1 ∙ after-b .b .given .1
+    simp length-set (after-b2 .b2 .given .1 ∙ after-b .b .given .1)
 
 returns : tie.Need-returns
 returns c e =
