@@ -34,22 +34,32 @@ assert len({(crate, name) for crate, name, _ in records}) == len(records), "a na
 SHAPES = re.compile(r"has no `|not in scope|is no item|has no field|mismatched types|no such|unknown|cannot find|is already declared|expected `.*Proof")
 
 
+PAIRS = [
+    r"computed as far as they go, the two types differ only where one has (.{1,60}?) \(expected\) and the other has (.{1,60}?) \(found\)",
+    r"computed as far as they go, the two types are (.{1,60}?) \(expected\) and (.{1,60}?) \(found\)",
+    r"differ only where one has (.{1,60}?) \(expected\).{0,80}? and the other has (.{1,60}?) \(found\)",
+    r"first differ where one has (.{1,60}?) \(expected\).{0,80}? and the other has (.{1,60}?) \(found\)",
+]
+
+
 def first_error(log):
     """The first refusal in a log, and whether it is one of a name or a shape."""
     lines = open(log, encoding="utf-8", errors="replace").read().split("\n")
     for i, line in enumerate(lines):
-        place = re.search(r"((?:proofs|specs|src)/\S+?:\d+:\d+): error: (.*)", line)
-        if place:
-            said = " ".join([place.group(2)] + [x.strip() for x in lines[i + 1 : i + 3] if x.startswith("  ")])
-            differ = re.search(r"differ only where one has (.{1,60}?) \(expected\) and the other has (.{1,60}?) \(found\)", said)
-            first = re.search(r"first differ where one has (.{1,60}?) \(expected\).*?and the other has (.{1,60}?) \(found\)", said)
-            whole = re.search(r"the two types are (.{1,60}?) \(expected\) and (.{1,60}?) \(found\)", said)
-            both = differ or first or whole
-            short = f"{both.group(1)} expected, {both.group(2)} found" if both else said[:160]
-            return f"{place.group(1)}: {short}", bool(SHAPES.search(said))
-        place = re.search(r"((?:src)/\S+?:\d+:\d+): (it is not proved that .*)", line)
-        if place:
-            return f"{place.group(1)}: {place.group(2)[:160]}", False
+        place = re.search(r"((?:proofs|specs|src)/\S+?:\d+:\d+): (?:error: (.*)|(it is not proved that .*))", line)
+        if not place:
+            continue
+        said = place.group(2) or place.group(3)
+        shape = bool(place.group(2) and SHAPES.search(said[:400]))
+        for more in lines[i + 1 : i + 6]:
+            if not more.startswith("  "):
+                break
+            said += " " + more.strip()
+        for pair in PAIRS:
+            both = re.search(pair, said)
+            if both:
+                return f"{place.group(1)}: {both.group(1)} expected, {both.group(2)} found", shape
+        return f"{place.group(1)}: {said[:160]}", shape
     return "no error in the log", True
 
 
