@@ -1,4 +1,4 @@
-// What ends the wait of buffers and drains on the block of one live stream: the back end's reports, a clear, a destroy.
+// What completes pending answers on the block of one live stream: the back end's reports, a clear, a destroy.
 mod reports;
 mod stops;
 

@@ -37,7 +37,7 @@ module _ {A : Type 0} (p : A → Bool) (d : A) where
       of false none false = refl
 
   position-lowest : (l : List A) → position p l ≡ lowestBelow (length l) (λ i. p (getD l i d))
-  unfolding lowestBelow orElse
+  unfolding lowestBelow
   position-lowest [] = refl
   position-lowest (x ∷ l) = ap (λ (o : Option ℕ). cond (p x) (some 0) (later o)) (position-lowest l) ∙ sym (lowest-front (λ i. p (getD (x ∷ l) i d)) (length l))
 

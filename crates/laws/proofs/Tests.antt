@@ -103,7 +103,7 @@ module _ (x lo hi : ℕ) where
 -- the lowest number that passes
 module _ (p : ℕ → Bool) where
   pub lowest-none : lowestBelow 0 p ≡ none
-  unfolding lowestBelow orElse
+  unfolding lowestBelow
   lowest-none = refl
 
   pub lowest-more : (i : ℕ) → lowestBelow i p ≡ none → p i ≡ false → lowestBelow (i + 1) p ≡ none

@@ -56,7 +56,7 @@ allAgree d (l ∷ ls) =
 abbrev pub deviceAfter : List Act → Device
 deviceAfter l = final fresh (map roomy l)
 
--- the definitions give those outcomes
+-- the definitions give what is expected
 abbrev pub passes : Case → Bool
 passes c = allAgree (deviceAfter (c .history)) (c .expected)
 

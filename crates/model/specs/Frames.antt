@@ -68,7 +68,7 @@ abbrev pub ruleOf : ℕ → List CommandRule → Option CommandRule
 ruleOf ty [] = none
 ruleOf ty (l ∷ ls) = cond (eqb (l .type) ty) (some l) (ruleOf ty ls)
 
--- the command of a type; none for 0x0100 and for an unknown one
+-- the rule of a type's command; none for 0x0100 and for an unknown type
 unfoldable pub commandOf : ℕ → Option CommandRule
 commandOf ty = ruleOf ty commands
 

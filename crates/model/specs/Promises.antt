@@ -1,5 +1,5 @@
 -- What else holds of every step and of every list of steps. Those over devices are proved in proofs/ as they stand. Those over tables are
--- proved there of every layout, or of every lawful one (`Lawful`), and then of the one layout that is used: `Promised` in table/specs/Promises.
+-- proved there of every layout, or of every lawful one (`Lawful`), and then of the one layout that is used: `TablePromises` in table/specs/Promises.
 use Prim.Native.Nat.{ℕ, _≤_, _<_}
 use mathlib.Core.Path.{_≡_}
 use mathlib.Core.Bool.{Bool, true, false, not, _&&_, _||_}

@@ -4,7 +4,7 @@ use Rattle.line.specs.Promises.{RoomFree, WritesAnswers, AnyCalls, AnyCutting, 
 use Rattle.line.specs.WorkedExample.{WorkedExample}
 
 pub record LogPromises : Type 0 where
-  -- however a log is cut into pieces, the calls of `feed` on them and that of `finish` write what the whole log writes
+  -- however a log is cut into pieces, the calls of `feed` on them and that of `last_line` write what the whole log writes
   pub anyCutting : AnyCutting layout
   -- and so, for the bytes that they use, calls on any pieces do
   pub anyCalls : AnyCalls layout

@@ -1,4 +1,4 @@
--- `valid::checks::head_stands` meets its contract: a law for each case of the drain word.
+-- `valid::places::head_stands` meets its contract: a law for each case of the drain word.
 use mathlib.Core.Path.{_∙_}
 use borrow.Author.Needs.{needs}
 use Rattle.valid.proofs.PlaceStands.{head-idle, head-draining, head-other}

@@ -1,4 +1,4 @@
--- `valid::checks::place_stands` meets its contract: the test of a block is that of its four parts, in order.
+-- `valid::places::place_stands` meets its contract: the test of a block is that of its four parts, in order.
 use mathlib.Core.Path.{_≡_, sym, ap, _∙_}
 use mathlib.Core.Bool.{Bool, true}
 use mathlib.Core.List.{List}
