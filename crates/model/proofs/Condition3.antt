@@ -83,8 +83,8 @@ module _ (k : ℕ) (d : Device) (l : Ledger) (s : Step) (g : Agree d l) (m : goo
   read = read-back d s (g .well) m
 
   -- a step that is refused by a number
-  kept-refused : (j : ℕ) → eqb j 0 ≡ false → stepOn d s ≡ refused j d → Kept k d l s
-  kept-refused j z e =
+  read-refused : (j : ℕ) → eqb j 0 ≡ false → stepOn d s ≡ refused j d → Kept k d l s
+  read-refused j z e =
       let o = eventOf s (stepOn d s) in
       let no : accepted o ≡ false = accepted-is s (stepOn d s) read ∙ ap (λ (x : DeviceReply). eqb (x .refusal) 0 && not (anyOf fails (x .answers))) e ∙ simp z in
       let is : notedOf k o ≡ noted k a false false =
@@ -111,8 +111,8 @@ module _ (k : ℕ) (d : Device) (l : Ledger) (s : Step) (g : Agree d l) (m : goo
     taken : accepted (eventOf s (stepOn d s)) ≡ fit .acc
     taken = accepted-is s (stepOn d s) read ∙ ap (λ (x : DeviceReply). eqb (x .refusal) 0 && not (anyOf fails (x .answers))) e ∙ fit .is
 
-    fed-is : notedOf k (eventOf s (stepOn d s)) ≡ noted k a z (fit .acc)
-    fed-is = λ i. record { number = k; act = a; isZero = eqb (e i .refusal) 0; accepted = taken i }
+    noted-is : notedOf k (eventOf s (stepOn d s)) ≡ noted k a z (fit .acc)
+    noted-is = λ i. record { number = k; act = a; isZero = eqb (e i .refusal) 0; accepted = taken i }
 
     own-pending : viewAt n (ledgerAfter (noted k a z (fit .acc)) l) ≡ holding (recordOf n (performOf d a (some n) .device .places))
     own-pending =
@@ -127,8 +127,8 @@ module _ (k : ℕ) (d : Device) (l : Ledger) (s : Step) (g : Agree d l) (m : goo
         all-append (awaits known) (adds k a) (keep (λ p. not (completedBy a p)) l)
         ∙ both (knows-pending k (stepTicket a) n (awaitedBy a) (h refl)) (all-keep (awaits known) (λ p. not (completedBy a p)) l (g .knows))
 
-    kept-own : Kept k d l s
-    kept-own =
+    read-own : Kept k d l s
+    read-own =
         record {
           answers =
               tickets-are s (stepOn d s) read
@@ -136,16 +136,16 @@ module _ (k : ℕ) (d : Device) (l : Ledger) (s : Step) (g : Agree d l) (m : goo
               ∙ fit .told
               ∙ ap (λ (x : View). ticketsCompleted (completes a) (fit .acc) x ++ ownTickets a z (fit .acc)) (sym (g .sameView n))
               ∙ ap (λ (x : List ℕ). x ++ ownTickets a z (fit .acc)) (sym (tickets-completed k a z (fit .acc) l))
-              ∙ ap (λ (x : Noted). expectedTickets x l) (sym fed-is);
+              ∙ ap (λ (x : Noted). expectedTickets x l) (sym noted-is);
           agree = record {
             well = stays-well-formed d s (g .well) m;
             sameView = λ j.
-                ap (λ (x : Noted). viewAt j (ledgerAfter x l)) fed-is
+                ap (λ (x : Noted). viewAt j (ledgerAfter x l)) noted-is
                 ∙ decide (eqb n j)
                 (λ q. subst (λ (x : ℕ). viewAt x (ledgerAfter (noted k a z (fit .acc)) l) ≡ holding (recordOf x (performOf d a (some n) .device .places))) (eqb-true n j q) own-pending)
                 (λ q. view-other k j a z (fit .acc) l q ∙ g .sameView j ∙ ap holding (sym (other-record j n d a q)))
                 ∙ ap (λ (x : DeviceReply). holding (recordOf j (x .device .places))) (sym e);
-            knows = ap (λ (x : Noted). allOf (awaits known) (ledgerAfter x l)) fed-is ∙ still-knows (fit .acc) (fit .adds);
+            knows = ap (λ (x : Noted). allOf (awaits known) (ledgerAfter x l)) noted-is ∙ still-knows (fit .acc) (fit .adds);
           };
         }
 
@@ -159,11 +159,11 @@ event-read : (k : ℕ) (d : Device) (l : Ledger) (s : Step) → Agree d l → go
 event-read k d l s g m =
     decide (eqb (roomRefusal s) 0)
     (λ e. of (streamOf (s .act)) refl (step-runs d s e))
-    (λ e. kept-refused k d l s g m (roomRefusal s) e (step-refused d s e))
+    (λ e. read-refused k d l s g m (roomRefusal s) e (step-refused d s e))
   where
     of : (o : Option ℕ) → streamOf (s .act) ≡ o → stepOn d s ≡ perform d (s .act) → Kept k d l s
-    of none e h = kept-refused k d l s g m 4 refl (h ∙ ap (performOf d (s .act)) e)
-    of (some n) e h = kept-own k d l s g m (h ∙ ap (performOf d (s .act)) (e ∙ ap some (step-stream-is (s .act) n e)))
+    of none e h = read-refused k d l s g m 4 refl (h ∙ ap (performOf d (s .act)) e)
+    of (some n) e h = read-own k d l s g m (h ∙ ap (performOf d (s .act)) (e ∙ ap some (step-stream-is (s .act) n e)))
 
 -- and so over a whole list
 
@@ -188,13 +188,13 @@ pub rewritten-written : (l : List Answer) → rewritten (map asWritten l) ≡ by
 rewritten-written [] = refl
 rewritten-written (a ∷ l) = ap (λ r. littleEndian 4 (a .ticket) ++ (littleEndian 4 (length (responseOf a)) ++ (responseOf a ++ r))) (rewritten-written l)
 
-all-framed : (d : Device) (ss : List Step) → wellFormed d ≡ true → goodSteps ss ≡ true → InWholeAnswers (eventsOf d ss)
-all-framed d [] h m = tt
-all-framed d (s ∷ ss) h m =
+all-whole : (d : Device) (ss : List Step) → wellFormed d ≡ true → goodSteps ss ≡ true → InWholeAnswers (eventsOf d ss)
+all-whole d [] h m = tt
+all-whole d (s ∷ ss) h m =
     let good = and-left (goodAct (s .act)) (goodSteps ss) m in (
       ap rewritten (read-back d s h good) ∙ rewritten-written (stepOn d s .answers),
       refl,
-      all-framed (stepOn d s .device) ss (stays-well-formed d s h good) (and-right (goodAct (s .act)) (goodSteps ss) m),
+      all-whole (stepOn d s .device) ss (stays-well-formed d s h good) (and-right (goodAct (s .act)) (goodSteps ss) m),
     )
 
 agree-fresh : Agree fresh []
@@ -436,7 +436,7 @@ pub condition3 : OnDevices
 condition3 ss m =
     record {
       isolated = λ n. isolated n ss;
-      wholeAnswers = all-framed fresh ss well-fresh m;
+      wholeAnswers = all-whole fresh ss well-fresh m;
       answered = as-expected 0 fresh [] ss agree-fresh m;
       pendingExactly = λ n p. agree-pending p (final fresh ss) (ledgerOf (eventsOf fresh ss)) n (agree-end 0 fresh [] ss agree-fresh m);
       once = λ before later e split acc h.

@@ -1,7 +1,7 @@
 -- A property of a reply, of a stream or of the device, by what can give it.
 use Prim.Native.Nat.{ℕ, _+_}
-use mathlib.Core.Path.{_≡_, refl}
-use mathlib.Core.Bool.{true}
+use mathlib.Core.Path.{_≡_, refl, sym, subst}
+use mathlib.Core.Bool.{true, cond}
 use mathlib.Core.Option.{Option, none, some}
 use mathlib.Core.List.{[], _∷_}
 use lib.ListN.{length}
@@ -88,7 +88,10 @@ module _ (P : Reply → Type 0) where
     where
       of-drain : (d : Option ℕ) → b .draining ≡ d → P (endDrain n b d)
       of-drain none e = five
-      of-drain (some t) e = cond-elim P (isEmpty (queuedIn (b .inputs .slots))) (λ _. h b t refl e) (λ _. five)
+      of-drain (some t) e =
+          let done : Reply = reply (record { ticket = t; stream = n; response = drainDone } ∷ []) (some (withDrain none b)) in
+          let is : endDrain n b (some t) ≡ cond (isEmpty (queuedIn (b .inputs .slots))) done (refuse 5 (some b)) = refl in
+          subst P (sym is) (cond-elim P (isEmpty (queuedIn (b .inputs .slots))) (λ _. h b t refl e) (λ _. five))
 
 -- a refusal, or what the stream that the step names gives
 pub step-cases : (P : DeviceReply → Type 0) (d : Device) (s : Step) → ((k : ℕ) → P (refused k d))

@@ -1,7 +1,7 @@
 -- `valid::queue_stands` meets its contract. The invariant: the words of each slot below `i` are those of the slot that they stand for.
 use mathlib.Core.Path.{_≡_, sym, ap, _∙_}
 use mathlib.Core.Bool.{true}
-use Prim.Native.Nat.{ℕ, _≤_, _-_, _+_, _*_}
+use Prim.Native.Nat.{ℕ, _<_, _≤_, _-_, _+_, _*_}
 use native.Mathlib.Omega.{arith}
 use native.Mathlib.Nat.{add-sub-cancel-left}
 use borrow.Author.Needs.{needs}
@@ -23,7 +23,7 @@ shared-slice-read-if1 : tie.Need-shared-slice-read-if1 Inv-loop μ-loop
 shared-slice-read-if1 c = search needs
 
 returns : tie.Need-returns Inv-loop μ-loop
-returns c = sym (queue-test _ (c .before .before .before .pre) ∙ rw (lt-leb _ _ (c .if1 .taken)))
+returns c = let marked : 1 < _ = c .if1 .taken in sym (queue-test _ (c .before .before .before .pre) ∙ rw (lt-leb _ _ marked))
 
 loop-holds : tie.Need-loop-holds Inv-loop μ-loop
 loop-holds c = (search needs, all-none (λ j. slotStands (part (4 + 5 * j) 5 (c .before .before .before .args .q .now))))
