@@ -12,10 +12,9 @@ use Rattle.model.specs.Commands.{Surroundings, succeed, onCreate, onLive, onStr
 use Rattle.model.specs.Steps.{command, serve}
 use Rattle.answer.specs.Answer.{answerTo}
 use Rattle.frame.specs.Frame.{goodCreation}
-use Rattle.frame.specs.Meant.{wrong, right}
+use Rattle.frame.specs.Meant.{wrong, right, verdictFor}
 use Rattle.frame.proofs.Checks.{tests-hit, tests-miss, wrong-frame, right-frame, creation-bad, creation-good}
 use Rattle.stream.specs.Replied.{requestTo}
-use Rattle.device.specs.Served.{verdictFor}
 
 module _ (f : List ℕ) (around : Surroundings) (n t : ℕ) where
   abbrev asks : Option Stream → Request

@@ -3,16 +3,13 @@ use Prim.Native.Nat.{ℕ}
 use mathlib.Core.Path.{_≡_}
 use mathlib.Core.Bool.{true}
 use mathlib.Core.List.{List}
-use lib.ListN.{length}
 use Rattle.laws.specs.Stores.{Wrote}
 use Rattle.model.specs.Device.{Device, recordOf, putBack}
-use Rattle.model.specs.Frames.{commandOf, commandType}
 use Rattle.model.specs.Answers.{bytesOf}
 use Rattle.model.specs.Replies.{Reply}
 use Rattle.model.specs.Steps.{Act, around, serve}
 use Rattle.model.specs.WellFormed.{wellFormed}
 use Rattle.table.specs.Blocks.{encode}
-use Rattle.frame.specs.Meant.{Verdict, verdict}
 
 -- the words are those of the well-formed device d
 pub record Encodes (words : List ℕ) (d : Device) : Type 0 where
@@ -33,7 +30,3 @@ pub record Served (d : Device) (n : ℕ) (a : Act) (left room room′ : List ℕ
   pub refusal-is : refusal ≡ replyOf d n a .refusal
   pub words : left ≡ encode (putBack n (replyOf d n a .next) d)
   pub bytes : Wrote room room′ 0 written (bytesOf (replyOf d n a .answers))
-
--- what the type and the length of a frame say
-abbrev pub verdictFor : List ℕ → Verdict
-verdictFor f = verdict (commandOf (commandType f)) (length f)

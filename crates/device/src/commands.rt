@@ -8,9 +8,9 @@ ghost use Rattle.model.specs.Frames.{create, live, queueNamed, streamId, queueT
 ghost use Rattle.model.specs.Commands.{onQueueOf, onNamed, onLive};
 ghost use Rattle.model.specs.Steps.{command};
 ghost use Rattle.protocol.specs.QueueTypes.{queueTypeOf};
-ghost use Rattle.frame.specs.Meant.{queueCommandOf, liveCommandOf, meant, right, queueLength, leastLength};
+ghost use Rattle.frame.specs.Meant.{queueCommandOf, liveCommandOf, meant, right, queueLength, leastLength, verdictFor};
 ghost use Rattle.stream.specs.Replied.{BlockOf, LiveBlock, requestTo, Replied};
-ghost use Rattle.device.specs.Served.{Encodes, DeviceWords, Served, verdictFor};
+ghost use Rattle.device.specs.Served.{Encodes, DeviceWords, Served};
 use crate::places::live_place;
 use crate::places::vacant_place;
 use frame::Checked;

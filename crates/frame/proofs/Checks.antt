@@ -11,13 +11,13 @@ use Rattle.laws.specs.Tests.{within}
 use Rattle.laws.proofs.Lists.{decide}
 use Rattle.model.specs.Numbers.{firstCoded, lastCoded}
 use Rattle.model.specs.Device.{QueueType, Stream}
-use Rattle.model.specs.Frames.{Command, LengthRule, exactly, atLeast, CommandRule, commands, commandOf, wrongLength, commandType, inMemType, outMemType, codedFormat, planesLayout, numPlanes, entries, entryBytes, numDataSizes, formatSent, frameWidth}
+use Rattle.model.specs.Frames.{Command, LengthRule, exactly, atLeast, CommandRule, commands, ruleOf, wrongLength, commandType, inMemType, outMemType, codedFormat, planesLayout, numPlanes, entries, entryBytes, numDataSizes, formatSent, frameWidth}
 use Rattle.model.specs.Answers.{ErrorCode, invalidParameter}
 use Rattle.model.specs.Replies.{Reply, Request, fail, Tests, _⇒_then_, byTests}
 use Rattle.model.specs.Commands.{Surroundings, onCreate, badEntry, onCreateResource, onQueue, formatOf, goodExtent, onSet, onStream, onRule, onCommand}
 use Rattle.model.proofs.Rules.{each-rule, by-type}
 use Rattle.frame.specs.Frame.{goodCreation, entrySum, goodEntries, goodResource, goodSizes, goodSet}
-use Rattle.frame.specs.Meant.{Verdict, wrong, right, verdict, leastLength}
+use Rattle.frame.specs.Meant.{Verdict, wrong, right, verdict, verdictFor, leastLength}
 use Rattle.frame.specs.Rest.{restOfCreate, restOfResource, restOfQueue, restOfSet}
 
 -- Tests in order
@@ -57,21 +57,18 @@ onVerdict around c (wrong e) = fail c e
 onVerdict around c (right k) = onStream around c k (c .self)
 
 module _ (around : Surroundings) (c : Request) where
-  abbrev toldBy : Verdict
-  toldBy = verdict (commandOf (commandType (c .frame))) (length (c .frame))
-
   by-rule : (o : Option CommandRule) → onRule around c o ≡ onVerdict around c (verdict o (length (c .frame)))
   by-rule none = refl
   by-rule (some l) = decide (wrongLength (l .lengthRule) (length (c .frame))) (λ t. simp t) (λ t. simp t)
 
-  by-verdict : (v : Verdict) → toldBy ≡ v → onCommand around c ≡ onVerdict around c v
+  by-verdict : (v : Verdict) → verdictFor (c .frame) ≡ v → onCommand around c ≡ onVerdict around c v
   unfolding onCommand
-  by-verdict v e = by-rule (commandOf (commandType (c .frame))) ∙ ap (onVerdict around c) e
+  by-verdict v e = by-rule (ruleOf (commandType (c .frame))) ∙ ap (onVerdict around c) e
 
-  pub wrong-frame : (e : ErrorCode) → toldBy ≡ wrong e → onCommand around c ≡ fail c e
+  pub wrong-frame : (e : ErrorCode) → verdictFor (c .frame) ≡ wrong e → onCommand around c ≡ fail c e
   wrong-frame e h = by-verdict (wrong e) h
 
-  pub right-frame : (k : Command) → toldBy ≡ right k → onCommand around c ≡ onStream around c k (c .self)
+  pub right-frame : (k : Command) → verdictFor (c .frame) ≡ right k → onCommand around c ≡ onStream around c k (c .self)
   right-frame k h = by-verdict (right k) h
 
 -- a frame has the bytes that its command needs
@@ -92,7 +89,7 @@ rule-length n l is k e =
     let same : l .command ≡ k = cc in
     subst (λ (x : Command). leastLength x ≤ n) same (rw (← is) (ruled-length (l .lengthRule) n t)))
 
-pub right-length : (ty n : ℕ) (k : Command) → verdict (commandOf ty) n ≡ right k → leastLength k ≤ n
+pub right-length : (ty n : ℕ) (k : Command) → verdict (ruleOf ty) n ≡ right k → leastLength k ≤ n
 right-length ty n =
     by-type (λ ty o. (k : Command) → verdict o n ≡ right k → leastLength k ≤ n)
     (each-rule (λ l. leastOf (l .lengthRule) ≡ leastLength (l .command)) (λ l. (k : Command) → verdict (some l) n ≡ right k → leastLength k ≤ n) (rule-length n) commands

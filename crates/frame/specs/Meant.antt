@@ -1,8 +1,10 @@
 -- What the code's commands and its test of a frame's type and length stand for.
 use mathlib.Core.Bool.{cond}
 use mathlib.Core.Option.{Option, none, some}
+use mathlib.Core.List.{List}
 use Prim.Native.Nat.{ℕ}
-use Rattle.model.specs.Frames.{createResource, queueResource, destroyAll, clear, getParameters, setParameters, destroy, drain, control, toQueue, create, live, exactly, atLeast, wrongLength}
+use lib.ListN.{length}
+use Rattle.model.specs.Frames.{createResource, queueResource, destroyAll, clear, getParameters, setParameters, destroy, drain, control, toQueue, create, live, exactly, atLeast, ruleOf, wrongLength, commandType}
 use Rattle.model.specs.Frames as model
 use Rattle.model.specs.Answers.{ErrorCode, invalidOperation, invalidParameter}
 use Rattle.frame.specs.declared.commands.QueueCommand.{QueueCommand}
@@ -49,7 +51,11 @@ abbrev pub verdict : Option model.CommandRule → ℕ → Verdict
 verdict none n = wrong invalidOperation
 verdict (some l) n = ruled (l .lengthRule) (l .command) n
 
--- the same, by the code's rule
+-- what a frame's type and length say
+abbrev pub verdictFor : List ℕ → Verdict
+verdictFor f = verdict (ruleOf (commandType f)) (length f)
+
+-- the same as of a rule in the model, by the code's rule
 abbrev pub ruleVerdict : CommandRule → ℕ → Verdict
 ruleVerdict (Exactly k c) n = ruled (exactly k) (meant c) n
 ruleVerdict (AtLeast k c) n = ruled (atLeast k) (meant c) n

@@ -1,7 +1,7 @@
 // The commands, by the types and the lengths of their frames.
 ghost use mathlib.Core.Path.{_≡_};
 ghost use Prim.Native.Nat.{ℕ};
-ghost use Rattle.model.specs.Frames.{commandOf};
+ghost use Rattle.model.specs.Frames.{ruleOf};
 ghost use Rattle.frame.specs.Meant.{verdict, verdictOf, ruleVerdict};
 
 // The commands to a queue of a live stream.
@@ -44,7 +44,7 @@ pub enum Checked {
 
 // Tests the type of a command and then its length.
 pub fn check(kind: u32, len: usize) -> Checked
-    ensures { λ r. ⌜ verdictOf r ≡ verdict (commandOf kind) len ⌝ }
+    ensures { λ r. ⌜ verdictOf r ≡ verdict (ruleOf kind) len ⌝ }
 {
     let rule = rule_of(kind);
     match rule {
@@ -66,7 +66,7 @@ pub fn check(kind: u32, len: usize) -> Checked
 
 // The rule of a type.
 fn rule_of(kind: u32) -> CommandRule
-    ensures { λ r. ⌜ ((n : ℕ) → ruleVerdict r n ≡ verdict (commandOf kind) n) ⌝ }
+    ensures { λ r. ⌜ ((n : ℕ) → ruleVerdict r n ≡ verdict (ruleOf kind) n) ⌝ }
 {
     match kind {
         0x0101 => CommandRule::Exactly(88, Command::Create),

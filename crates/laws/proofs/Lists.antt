@@ -168,21 +168,21 @@ module _ {A : Type 0} (key : A → ℕ) where
   unfolding below
   below-not k y h = le-ltb _ _ h
 
-  above-at : (k : ℕ) (y : A) → k ≤ key y → notBelow key k y ≡ true
+  notBelow-at : (k : ℕ) (y : A) → k ≤ key y → notBelow key k y ≡ true
   unfolding notBelow
-  above-at k y h = ap not (le-ltb _ _ h)
+  notBelow-at k y h = ap not (le-ltb _ _ h)
 
-  above-not : (k : ℕ) (y : A) → key y < k → notBelow key k y ≡ false
+  notBelow-not : (k : ℕ) (y : A) → key y < k → notBelow key k y ≡ false
   unfolding notBelow
-  above-not k y h = ap not (lt-ltb _ _ h)
+  notBelow-not k y h = ap not (lt-ltb _ _ h)
 
   from-below : (k : ℕ) (y : A) → below key k y ≡ true → key y < k
   unfolding below
   from-below k y e = ltb-true _ _ e
 
-  from-above : (k : ℕ) (y : A) → notBelow key k y ≡ true → k ≤ key y
+  from-notBelow : (k : ℕ) (y : A) → notBelow key k y ≡ true → k ≤ key y
   unfolding notBelow
-  from-above k y e = ltb-false _ _ (not-true _ e)
+  from-notBelow k y e = ltb-false _ _ (not-true _ e)
 
   insertBy-is : (x : A) (l : List A) → insertBy key x l ≡ keep (below key (key x)) l ++ x ∷ keep (notBelow key (key x)) l
   unfolding insertBy
@@ -191,14 +191,14 @@ module _ {A : Type 0} (key : A → ℕ) where
   below-below : (j k : ℕ) → j ≤ k → (l : List A) → keep (below key k) (keep (below key j) l) ≡ keep (below key j) l
   below-below j k h l = keep-implied _ _ (λ x e. below-at k x (omega (arith, from-below j x e))) l
 
-  above-above : (j k : ℕ) → j ≤ k → (l : List A) → keep (notBelow key j) (keep (notBelow key k) l) ≡ keep (notBelow key k) l
-  above-above j k h l = keep-implied _ _ (λ x e. above-at j x (omega (arith, from-above k x e))) l
+  notBelow-notBelow : (j k : ℕ) → j ≤ k → (l : List A) → keep (notBelow key j) (keep (notBelow key k) l) ≡ keep (notBelow key k) l
+  notBelow-notBelow j k h l = keep-implied _ _ (λ x e. notBelow-at j x (omega (arith, from-notBelow k x e))) l
 
-  below-above : (j k : ℕ) → j ≤ k → (l : List A) → keep (below key j) (keep (notBelow key k) l) ≡ []
-  below-above j k h l = keep-excluded _ _ (λ x e. below-not j x (omega (arith, from-above k x e))) l
+  below-notBelow : (j k : ℕ) → j ≤ k → (l : List A) → keep (below key j) (keep (notBelow key k) l) ≡ []
+  below-notBelow j k h l = keep-excluded _ _ (λ x e. below-not j x (omega (arith, from-notBelow k x e))) l
 
-  above-below : (j k : ℕ) → j ≤ k → (l : List A) → keep (notBelow key k) (keep (below key j) l) ≡ []
-  above-below j k h l = keep-excluded _ _ (λ x e. above-not k x (omega (arith, from-below j x e))) l
+  notBelow-below : (j k : ℕ) → j ≤ k → (l : List A) → keep (notBelow key k) (keep (below key j) l) ≡ []
+  notBelow-below j k h l = keep-excluded _ _ (λ x e. notBelow-not k x (omega (arith, from-below j x e))) l
 
   -- insertions of two keys commute
   insertBy-lt : (a b : A) (l : List A) → key a < key b → insertBy key a (insertBy key b l) ≡ insertBy key b (insertBy key a l)
@@ -207,11 +207,11 @@ module _ {A : Type 0} (key : A → ℕ) where
         insertBy-is,
         keep-append,
         below-not (key a) b (omega arith),
-        above-at (key a) b (omega arith),
+        notBelow-at (key a) b (omega arith),
         below-at (key b) a h,
-        above-not (key b) a h,
-        below-above (key a) (key b) (omega arith) l,
-        above-below (key a) (key b) (omega arith) l,
+        notBelow-not (key b) a h,
+        below-notBelow (key a) (key b) (omega arith) l,
+        notBelow-below (key a) (key b) (omega arith) l,
         append-nil,
       )
       (simp (keep-comm (below key (key a)) (below key (key b)) l, keep-comm (notBelow key (key a)) (below key (key b)) l, keep-comm (notBelow key (key a)) (notBelow key (key b)) l, append-assoc))
@@ -236,14 +236,14 @@ module _ {A : Type 0} (key : A → ℕ) where
         insertBy-is,
         keep-append,
         below-at k x lt,
-        above-not k x lt,
+        notBelow-not k x lt,
         append-assoc,
         below-below (key x) k (omega arith) l,
-        above-below (key x) k (omega arith) l,
+        notBelow-below (key x) k (omega arith) l,
         splits-keep (notBelow key (key x)) k l h,
       ))
       (λ e. let ge : k ≤ key x = ltb-false _ _ e in
-      simp (insertBy-is, keep-append, below-not k x ge, above-at k x ge, below-above k (key x) ge l, above-above k (key x) ge l, append-nil, ← append-assoc)
+      simp (insertBy-is, keep-append, below-not k x ge, notBelow-at k x ge, below-notBelow k (key x) ge l, notBelow-notBelow k (key x) ge l, append-nil, ← append-assoc)
       (simp (splits-keep (below key (key x)) k l h)))
 
   splits-ascending : (l : List A) → Splits (ascending key l)
@@ -266,11 +266,11 @@ module _ {A : Type 0} (key : A → ℕ) (l : List A) where
       keep-keep (below key (suc (key x))) (notBelow key (key x)) s
       ∙ keep-ext (λ y. notBelow key (key x) y && below key (suc (key x)) y) (λ y. eqb (key y) (key x))
       (λ y. decide (eqb (key y) (key x))
-      (λ e. let q = eqb-true (key y) (key x) e in simp (e, above-at key (key x) y (omega arith), below-at key (suc (key x)) y (omega arith)))
+      (λ e. let q = eqb-true (key y) (key x) e in simp (e, notBelow-at key (key x) y (omega arith), below-at key (suc (key x)) y (omega arith)))
       (λ e. let q = eqb-false (key y) (key x) e in
       decide (ltb (key y) (key x))
-      (λ b. simp (e, above-not key (key x) y (ltb-true (key y) (key x) b)))
-      (λ b. let ge = ltb-false (key y) (key x) b in simp (e, below-not key (suc (key x)) y (omega (arith, q)), above-at key (key x) y ge)))) s
+      (λ b. simp (e, notBelow-not key (key x) y (ltb-true (key y) (key x) b)))
+      (λ b. let ge = ltb-false (key y) (key x) b in simp (e, below-not key (suc (key x)) y (omega (arith, q)), notBelow-at key (key x) y ge)))) s
 
   pub ascending-next : (k : ℕ) (x : A) → k ≤ key x → keep (λ y. eqb (key y) (key x)) l ≡ x ∷ [] → keep (notBelow key k) (keep (below key (key x)) l) ≡ []
       → keep (notBelow key k) (ascending key l) ≡ x ∷ keep (notBelow key (suc (key x))) (ascending key l)
@@ -283,10 +283,10 @@ module _ {A : Type 0} (key : A → ℕ) (l : List A) where
       let here : keep (below key (suc i)) (keep (notBelow key i) s) ≡ x ∷ [] =
       only-key x s ∙ keep-ascending key (λ y. eqb (key y) i) l ∙ ap (ascending key) only in
       let high : keep (notBelow key (suc i)) (keep (notBelow key i) s) ≡ keep (notBelow key (suc i)) s =
-      keep-comm (notBelow key (suc i)) (notBelow key i) s ∙ above-above key i (suc i) (omega arith) s in
+      keep-comm (notBelow key (suc i)) (notBelow key i) s ∙ notBelow-notBelow key i (suc i) (omega arith) s in
       ap (keep (notBelow key k)) (sym (splits-ascending key l i))
       ∙ keep-append (notBelow key k) (keep (below key i) s) (keep (notBelow key i) s)
-      ∙ ap₂ (λ (a b : List A). a ++ b) low (above-above key k i h s)
+      ∙ ap₂ (λ (a b : List A). a ++ b) low (notBelow-notBelow key k i h s)
       ∙ sym (splits-keep key (notBelow key i) (suc i) s (splits-ascending key l))
       ∙ ap₂ (λ (a b : List A). a ++ b) here high
 

@@ -5,7 +5,7 @@ use Rattle.laws.specs.Parts.{pieces, zeros}
 use Rattle.field.specs.Field.{field, littleEndian}
 use Rattle.model.specs.Device.{fresh, putRecord}
 use Rattle.model.specs.Answers.{responseBytes, readFrom}
-use Rattle.model.specs.Frames.{commandOf}
+use Rattle.model.specs.Frames.{ruleOf}
 use Rattle.model.specs.Replies.{byTests}
 use Rattle.model.specs.Reports.{onDrained}
 use Rattle.model.specs.Commands.{onDrain, onCommand}
@@ -21,7 +21,7 @@ use Rattle.line.proofs.Shown.{shows-events}
 
 computed : eventsOutput threeLines ≡ theirOutput
 unfolding digitOf isHex hexBytes lowerDigit hexPair commandIn finishIn drainedIn frameIn lineOf linesIn answerLine answerLines refusalLine pieces zeros field littleEndian within
-    fresh putRecord responseBytes readFrom commandOf byTests onDrain onCommand onDrained streamOf serve hostRefusal stepOn
+    fresh putRecord responseBytes readFrom ruleOf byTests onDrain onCommand onDrained streamOf serve hostRefusal stepOn
 computed = refl
 
 pub worked-example : (L : Layout) → Lawful L → WorkedExample L

@@ -14,7 +14,7 @@ use Rattle.laws.proofs.Tests.{never}
 use Rattle.laws.proofs.Lists.{cond-elim, eqb-same, eqb-sym, keep-ascending, keep-const, none-is, any-append, empty-is}
 use Rattle.field.specs.Field.{field}
 use Rattle.model.specs.Device.{QueueType, input, output, queued, dequeued, Queue, Stream, newStream, queueOf, withQueue, withDrain, withSlots, Buffer, queuedIn, byResource, buffers, bufferOf, present, addResource, setState, freeAll}
-use Rattle.model.specs.Frames.{QueueCommand, createResource, queueResource, destroyAll, clear, getParameters, setParameters, LiveCommand, destroy, drain, control, toQueue, create, live, CommandRule, commands, commandOf, wrongLength, queueNumber, queueNamed, codedFormat, resourceId, timestampSent}
+use Rattle.model.specs.Frames.{QueueCommand, createResource, queueResource, destroyAll, clear, getParameters, setParameters, LiveCommand, destroy, drain, control, toQueue, create, live, CommandRule, commands, ruleOf, wrongLength, queueNumber, queueNamed, codedFormat, resourceId, timestampSent}
 use Rattle.model.specs.Answers.{ErrorCode, invalidOperation, invalidStream, invalidParameter, unsupportedControl, Response, success, bufferDone, drainDone, parameters, failure, Answer}
 use Rattle.model.specs.Replies.{Reply, refuse, reply, Request, own, fail}
 use Rattle.model.specs.Commands.{Surroundings, onCreate, stoppedAnswers, drainAnswers, onDestroy, onDrain, onCreateResource, onQueue, onDestroyAll, drainEnded, drainLeft, cleared, onClear, onGet, onSet, onQueueOf, onLive, onStream, onRule, onCommand}
@@ -455,7 +455,7 @@ module _ (around : Surroundings) (n t : ℕ) (f : List ℕ) where
     ),
   )
 
-  command-fits : (self : Option Stream) → Sane self → (ty : ℕ) → OfRule self ty (commandOf ty)
+  command-fits : (self : Option Stream) → Sane self → (ty : ℕ) → OfRule self ty (ruleOf ty)
   unfolding OfStream
   command-fits self s = by-type (OfRule self) (each-rule (OfStream self) (λ l. OfRule self (l .type) (some l)) (of-rule self) commands (streams self s)) (λ ty. fail-type ty n t f self invalidOperation)
 

@@ -15,7 +15,7 @@ use Rattle.field.specs.Field.{field, littleEndian}
 use Rattle.tag.specs.Tag.{createType, createLength, goodTag, tagIn}
 use Rattle.model.specs.Numbers.{firstCoded, lastCoded}
 use Rattle.model.specs.Device.{Stream, Place, vacant, occupied, recordOf, noPlace}
-use Rattle.model.specs.Frames.{create, exactly, CommandRule, _is_ofLength_, commandOf, wrongLength, commandType, inMemType, outMemType, codedFormat}
+use Rattle.model.specs.Frames.{create, exactly, CommandRule, _is_ofLength_, ruleOf, wrongLength, commandType, inMemType, outMemType, codedFormat}
 use Rattle.model.specs.Answers.{invalidOperation, invalidParameter, responseBytes, readFrom}
 use Rattle.model.specs.Replies.{Reply, Request, fail, byTests}
 use Rattle.model.specs.Commands.{Surroundings, withFull, onCreate, onStream, onRule, onCommand}
@@ -56,7 +56,7 @@ line-quiet : (around : Surroundings) (c : Request) (l : CommandRule) → l .comm
 line-quiet around c l e =
     decide (wrongLength (l .lengthRule) (length (c .frame))) (λ w. simp w (length-quiet c)) (λ w. simp (w, e) (stream-quiet around c (c .self)))
 
-command-quiet : (around : Surroundings) (c : Request) (ty : ℕ) → (eqb ty 0x0101 && tellsFull (onRule (notFull around) c (commandOf ty))) ≡ false
+command-quiet : (around : Surroundings) (c : Request) (ty : ℕ) → (eqb ty 0x0101 && tellsFull (onRule (notFull around) c (ruleOf ty))) ≡ false
 command-quiet around c =
     by-type (λ ty l. (eqb ty 0x0101 && tellsFull (onRule (notFull around) c l)) ≡ false) (
       line-quiet around c (createType is create ofLength exactly createLength) refl,

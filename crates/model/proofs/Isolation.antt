@@ -15,7 +15,7 @@ use Rattle.field.specs.Field.{field, littleEndian}
 use Rattle.tag.specs.Tag.{goodTag, tagIn}
 use Rattle.model.specs.Numbers.{tableWords, firstCoded, lastCoded}
 use Rattle.model.specs.Device.{Stream, Place, vacant, Device, fresh, recordOf, noPlace, place, putRecord, withPlaces}
-use Rattle.model.specs.Frames.{LiveCommand, Command, create, live, CommandRule, commands, commandOf, wrongLength, commandType, inMemType, outMemType, codedFormat}
+use Rattle.model.specs.Frames.{LiveCommand, Command, create, live, CommandRule, commands, ruleOf, wrongLength, commandType, inMemType, outMemType, codedFormat}
 use Rattle.model.specs.Answers.{outOfMemory, bytesOf, responseBytes, readFrom, answersIn}
 use Rattle.model.specs.Replies.{Reply, Request, fail, byTests}
 use Rattle.model.specs.Commands.{Surroundings, withFull, onCreate, onStream, onRule, onCommand}
@@ -48,7 +48,7 @@ request-next around n t f (some l) = cond-elim StaysNone (wrongLength (l .length
 
 serve-next : (around : Surroundings) (n : ℕ) (a : Act) → StaysNone (serve (withFullness around) n none a)
 unfolding serve onCommand onFinish onDrained
-serve-next around n (command t f) = request-next around n t f (commandOf (commandType f))
+serve-next around n (command t f) = request-next around n t f (ruleOf (commandType f))
 serve-next around n (finish m qt r flags ts) = cond-elim StaysNone (ltb 3 flags) (λ _. refl) (λ _. refl)
 serve-next around n (drained m) = refl
 
@@ -86,7 +86,7 @@ line-full around c l is h =
     (λ e. simp e)
     (λ e. simp e (stream-full around c (l .command) (c .self) (λ k. simp (is k, e) at h)))
 
-command-full : (around : Surroundings) (c : Request) (ty : ℕ) → SameLine around ty c (commandOf ty)
+command-full : (around : Surroundings) (c : Request) (ty : ℕ) → SameLine around ty c (ruleOf ty)
 command-full around c =
     by-type (λ ty l. SameLine around ty c l)
     (each-rule (λ l. l .command ≡ create → eqb (l .type) 0x0101 ≡ true) (λ l. SameLine around (l .type) c (some l)) (line-full around c) commands

@@ -10,7 +10,7 @@ use Rattle.laws.specs.Lists.{isEmpty}
 use Rattle.laws.proofs.Lists.{cond-elim}
 use Rattle.model.specs.Numbers.{tableWords, err, eos}
 use Rattle.model.specs.Device.{QueueType, dequeued, Stream, Device, queueOf, withQueue, withDrain, withSlots, Buffer, queuedIn, bufferOf, setState}
-use Rattle.model.specs.Frames.{QueueCommand, LiveCommand, destroy, drain, control, toQueue, Command, create, live, CommandRule, commandOf, wrongLength, queueNamed, commandType, queueType}
+use Rattle.model.specs.Frames.{QueueCommand, LiveCommand, destroy, drain, control, toQueue, Command, create, live, CommandRule, ruleOf, wrongLength, queueNamed, commandType, queueType}
 use Rattle.model.specs.Answers.{ErrorCode, invalidOperation, invalidStream, invalidParameter, unsupportedControl, bufferDone, drainDone}
 use Rattle.model.specs.Replies.{Reply, refuse, reply, Request, fail}
 use Rattle.model.specs.Commands.{Surroundings, onCreate, onDestroy, onDrain, onQueueOf, onNamed, onLive, onStream, onRule, onCommand}
@@ -28,7 +28,7 @@ module _ (P : Reply → Type 0) where
       → ((k : LiveCommand) (b : Stream) → c .self ≡ some b → P (onLive k c b))
       → P (onCommand around c)
   unfolding onCommand
-  command-cases around c fails new old = of-rule (commandOf (commandType (c .frame)))
+  command-cases around c fails new old = of-rule (ruleOf (commandType (c .frame)))
     where
       of-stream : (k : Command) (self : Option Stream) → c .self ≡ self → P (onStream around c k self)
       of-stream create none e = new e

@@ -7,7 +7,7 @@ use lib.Dec.{eqb}
 use borrow.Author.Tests.{eqb-true}
 use Rattle.laws.proofs.Lists.{decide}
 use Rattle.model.specs.Device.{QueueType, input, output}
-use Rattle.model.specs.Frames.{CommandRule, commands, ruleOf, commandOf, queueNumber, queueNamed}
+use Rattle.model.specs.Frames.{CommandRule, commands, ruleIn, ruleOf, queueNumber, queueNamed}
 
 -- what holds of every rule of a list
 abbrev pub Each : (CommandRule → Type 0) → List CommandRule → Type 0
@@ -19,15 +19,15 @@ each-rule P Q h [] e = tt
 each-rule P Q h (l ∷ ls) e = (h l (e .0), each-rule P Q h ls (e .1))
 
 -- what holds of every rule with its type, and of every type without a rule, holds of every type
-by-rule : (P : ℕ → Option CommandRule → Type 0) (ls : List CommandRule) → Each (λ l. P (l .type) (some l)) ls → ((ty : ℕ) → P ty none) → (ty : ℕ) → P ty (ruleOf ty ls)
+by-rule : (P : ℕ → Option CommandRule → Type 0) (ls : List CommandRule) → Each (λ l. P (l .type) (some l)) ls → ((ty : ℕ) → P ty none) → (ty : ℕ) → P ty (ruleIn ty ls)
 by-rule P [] h unknown ty = unknown ty
 by-rule P (l ∷ ls) h unknown ty =
     decide (eqb (l .type) ty)
     (λ e. simp e (subst (λ (x : ℕ). P x (some l)) (eqb-true (l .type) ty e) (h .0)))
     (λ e. simp e (by-rule P ls (h .1) unknown ty))
 
-pub by-type : (P : ℕ → Option CommandRule → Type 0) → Each (λ l. P (l .type) (some l)) commands → ((ty : ℕ) → P ty none) → (ty : ℕ) → P ty (commandOf ty)
-unfolding commandOf
+pub by-type : (P : ℕ → Option CommandRule → Type 0) → Each (λ l. P (l .type) (some l)) commands → ((ty : ℕ) → P ty none) → (ty : ℕ) → P ty (ruleOf ty)
+unfolding ruleOf
 by-type P h unknown ty = by-rule P commands h unknown ty
 
 -- a number that names a queue is that queue's

@@ -12,7 +12,7 @@ use Rattle.laws.specs.Lists.{isEmpty, isNone, toList, total}
 use Rattle.tag.specs.Tag.{goodTag, tagIn}
 use Rattle.model.specs.Numbers.{queueSlots, maxPlanes, firstCoded, lastCoded, nv12, err}
 use Rattle.model.specs.Device.{QueueType, input, output, queued, Queue, Stream, newStream, queueOf, withQueue, withDrain, withSlots, Buffer, queuedIn, buffers, bufferOf, present, noSlot, addResource, setState, stopAll, freeAll}
-use Rattle.model.specs.Frames.{QueueCommand, createResource, queueResource, destroyAll, clear, getParameters, setParameters, LiveCommand, destroy, drain, control, toQueue, Command, create, live, CommandRule, commandOf, wrongLength, queueNumber, queueNamed, commandType, inMemType, outMemType, codedFormat, queueType, resourceId, planesLayout, numPlanes, numEntries, entriesStart, entries, entryBytes, entryAddr, entryLength, timestampSent, numDataSizes, formatSent, frameWidth, frameHeight, frameRate}
+use Rattle.model.specs.Frames.{QueueCommand, createResource, queueResource, destroyAll, clear, getParameters, setParameters, LiveCommand, destroy, drain, control, toQueue, Command, create, live, CommandRule, ruleOf, wrongLength, queueNumber, queueNamed, commandType, inMemType, outMemType, codedFormat, queueType, resourceId, planesLayout, numPlanes, numEntries, entriesStart, entries, entryBytes, entryAddr, entryLength, timestampSent, numDataSizes, formatSent, frameWidth, frameHeight, frameRate}
 use Rattle.model.specs.Answers.{invalidOperation, outOfMemory, invalidStream, invalidResource, invalidParameter, unsupportedControl, success, bufferDone, drainDone, parameters, Answer}
 use Rattle.model.specs.Replies.{Reply, reply, Request, own, fail, Tests, accept, _⇒_then_, byTests}
 
@@ -214,4 +214,4 @@ onRule around c (some l) = cond (wrongLength (l .lengthRule) (length (c .frame))
 
 -- a command, by its type
 unfoldable pub onCommand : Surroundings → Request → Reply
-onCommand around c = onRule around c (commandOf (commandType (c .frame)))
+onCommand around c = onRule around c (ruleOf (commandType (c .frame)))

@@ -63,14 +63,14 @@ commands =
     ∷ 0x010C is live control ofLength atLeast 16
     ∷ []
 
--- the rule of a type
-abbrev pub ruleOf : ℕ → List CommandRule → Option CommandRule
-ruleOf ty [] = none
-ruleOf ty (l ∷ ls) = cond (eqb (l .type) ty) (some l) (ruleOf ty ls)
+-- the rule of a type among some
+abbrev pub ruleIn : ℕ → List CommandRule → Option CommandRule
+ruleIn ty [] = none
+ruleIn ty (l ∷ ls) = cond (eqb (l .type) ty) (some l) (ruleIn ty ls)
 
--- the rule of a type's command; none for 0x0100 and for an unknown type
-unfoldable pub commandOf : ℕ → Option CommandRule
-commandOf ty = ruleOf ty commands
+-- the rule of a type; none for 0x0100 and for an unknown one
+unfoldable pub ruleOf : ℕ → Option CommandRule
+ruleOf ty = ruleIn ty commands
 
 -- a length that is not the command's
 abbrev pub wrongLength : LengthRule → ℕ → Bool

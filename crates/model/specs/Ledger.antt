@@ -125,7 +125,7 @@ ownTickets (command t f) isZero acc = cond (isZero && not (acc && (isType 0x0105
 ownTickets (finish n qt r flags ts) isZero acc = []
 ownTickets (drained n) isZero acc = []
 
--- the tickets of a step's answers, by position: one to each pending answer that it completes, then its own
+-- the tickets of a step's answers, by position: one for each pending answer that it completes, then its own
 abbrev pub expectedTickets : Noted → Ledger → List ℕ
 expectedTickets s l = map (λ (p : Pending). p .ticket) (completed s l) ++ ownTickets (s .act) (s .isZero) (s .accepted)
 

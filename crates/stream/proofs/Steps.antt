@@ -36,8 +36,8 @@ module _ {n : ℕ} {l : List ℕ} {b : Stream} (h : BlockOf n l b) where
   pub slot-count : (q : QueueType) → length (queueOf q b .slots) ≡ 16
   slot-count q = (good-queue q) .slots .size
 
-  pub queues-apart : (q : QueueType) → Distinct (queueOf q b .slots)
-  queues-apart q = (good-queue q) .slots .apart
+  pub slots-distinct : (q : QueueType) → Distinct (queueOf q b .slots)
+  slots-distinct q = (good-queue q) .slots .apart
 
   pub width-good : (q : QueueType) → badExtent (queueOf q b .width) ≡ false
   width-good q = (good-queue q) .width

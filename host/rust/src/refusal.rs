@@ -14,7 +14,7 @@ use std::fmt;
 /// assert_eq!(refusal.number(), 5);
 /// assert_eq!(
 ///     refusal.to_string(),
-///     "no such buffer is queued, no such drain is pending, or an input is still queued (refusal 5)"
+///     "no such buffer is queued, no such drain is owed, or an input is still queued (refusal 5)"
 /// );
 /// ```
 #[derive(Clone, Copy, Debug, PartialEq, Eq, Hash)]
@@ -65,10 +65,10 @@ impl fmt::Display for Refusal {
             Refusal::ShortRoom => "the answer room has fewer than 1056 bytes",
             Refusal::ShortCommand => "the command has no whole header",
             Refusal::UnexpectedReport => {
-                "no such buffer is queued, no such drain is pending, or an input is still queued"
+                "no such buffer is queued, no such drain is owed, or an input is still queued"
             }
             Refusal::BadFlags => {
-                "flags other than ERR and EOS, or EOS on an input or with no drain pending"
+                "flags other than ERR and EOS, or EOS on an input or with no drain owed"
             }
         };
         write!(f, "{text} (refusal {})", self.number())

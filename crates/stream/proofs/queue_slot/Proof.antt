@@ -6,7 +6,7 @@ use Rattle.model.specs.Device.{queueOf}
 use Rattle.model.specs.Answers.{invalidOperation}
 use Rattle.protocol.specs.QueueTypes.{queueTypeOf}
 use Rattle.stream.specs.Replied.{requestTo}
-use Rattle.stream.proofs.Steps.{queues-apart, queue-words, queue-back, failed, silent}
+use Rattle.stream.proofs.Steps.{slots-distinct, queue-words, queue-back, failed, silent}
 use Rattle.stream.proofs.Tested.{queueing-again, queueing-new}
 use Rattle.stream.proofs.queue_slot.Statement.{statement}
 use Rattle.stream.proofs.queue_slot.Tie as tie
@@ -48,7 +48,7 @@ returns c b h p =
     let a = start .args in
     let t = queueTypeOf (a .q) in
     failed (a .ticket) invalidOperation h
-    (queueing-again (requestTo (a .stream) (a .ticket) (now (a .frame)) b) b t (a .k) p (queues-apart h t)
+    (queueing-again (requestTo (a .stream) (a .ticket) (now (a .frame)) b) b t (a .k) p (slots-distinct h t)
     (sym (then1 .if1 .taken) ∙ after-slot-queued .slot-queued .ensures (queueOf t b) (queue-words h t _ (after-queue-start .queue-start .ensures .1))))
     (after-put-plain .put-plain .ensures)
 
@@ -84,7 +84,7 @@ returns-2 c b h p =
     let a = start .args in
     let t = queueTypeOf (a .q) in
     silent _ _
-    (queueing-new (requestTo (a .stream) (a .ticket) (now (a .frame)) b) b t (a .k) p (queues-apart h t)
+    (queueing-new (requestTo (a .stream) (a .ticket) (now (a .frame)) b) b t (a .k) p (slots-distinct h t)
     (sym (else1 .if1 .left) ∙ after-slot-queued .slot-queued .ensures (queueOf t b) (queue-words h t _ (after-queue-start .queue-start .ensures .1)))
     _ (after-timestamp .timestamp .ensures))
     (queue-back h t _ (after-queue-start .queue-start .ensures .1) _ _ (after-set-queued .set-queued .ensures (queueOf t b)))

@@ -3,7 +3,7 @@ use native.Mathlib.Omega.{arith}
 use borrow.Author.Needs.{needs}
 use Rattle.model.specs.Device.{input, queueOf}
 use Rattle.protocol.specs.QueueTypes.{queueTypeOf}
-use Rattle.stream.proofs.Steps.{queue-words, queue-back, queues-apart}
+use Rattle.stream.proofs.Steps.{queue-words, queue-back, slots-distinct}
 use Rattle.completion.proofs.Ends.{answered-done, buffer-next, finish-answers}
 use Rattle.completion.proofs.reports.answer_slot.Statement.{statement}
 use Rattle.completion.proofs.reports.answer_slot.Tie as tie
@@ -86,7 +86,7 @@ returns c b m h found waits eos =
     let q = queueTypeOf (at-start .args .queue) in
     let start = after-queue-start .queue-start .ensures .1 in
     answered-done _ _
-    (finish-answers n m (at-start .args .flags) (at-start .args .timestamp) b q (at-start .args .k) (queues-apart h q) found waits _ _ eos
+    (finish-answers n m (at-start .args .flags) (at-start .args .timestamp) b q (at-start .args .k) (slots-distinct h q) found waits _ _ eos
     (after-slot-ticket .slot-ticket .ensures (queueOf q b) (queue-words h q _ start))
     (λ i t. after-timestamp-in .timestamp-in .ensures (queueOf q b) i (queue-words h q _ start) t))
     (queue-back h q _ start _ _ (after-set-dequeued .set-dequeued .ensures (queueOf q b)))

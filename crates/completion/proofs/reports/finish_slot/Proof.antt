@@ -4,7 +4,7 @@ use borrow.Author.Tests.{not-true, not-false}
 use borrow.Author.Needs.{needs}
 use Rattle.model.specs.Device.{queueOf}
 use Rattle.protocol.specs.QueueTypes.{queueTypeOf}
-use Rattle.stream.proofs.Steps.{queue-words, queues-apart}
+use Rattle.stream.proofs.Steps.{queue-words, slots-distinct}
 use Rattle.completion.proofs.Ends.{refused-done, finish-idle, finish-eos}
 use Rattle.completion.proofs.reports.finish_slot.Statement.{statement}
 use Rattle.completion.proofs.reports.finish_slot.Tie as tie
@@ -43,7 +43,7 @@ returns c b m h found =
     let n = start .args .stream in
     let q = queueTypeOf (start .args .queue) in
     refused-done (c .refused .ensures) h
-    (finish-idle n m (start .args .flags) (start .args .timestamp) b q (start .args .k) (queues-apart h q) found
+    (finish-idle n m (start .args .flags) (start .args .timestamp) b q (start .args .k) (slots-distinct h q) found
     (sym (after-slot-queued .slot-queued .ensures (queueOf q b) (queue-words h q _ (after-queue-start .queue-start .ensures .1))) ∙ not-true _ (then1 .if1 .taken)))
 
 bad-eos-requires : tie.Need-bad-eos-requires
@@ -62,7 +62,7 @@ returns-2 c b m h found =
     let n = start .args .stream in
     let q = queueTypeOf (start .args .queue) in
     refused-done (c .refused2 .ensures) h
-    (finish-eos n m (start .args .flags) (start .args .timestamp) b q (start .args .k) (queues-apart h q) found
+    (finish-eos n m (start .args .flags) (start .args .timestamp) b q (start .args .k) (slots-distinct h q) found
     (sym (after-slot-queued .slot-queued .ensures (queueOf q b) (queue-words h q _ (after-queue-start .queue-start .ensures .1))) ∙ not-false _ (else1 .if1 .left))
     (sym (after-bad-eos .bad-eos .ensures n b h) ∙ then2 .if2 .taken))
 

@@ -3,7 +3,7 @@ use borrow.Author.Needs.{needs}
 use Rattle.model.specs.Device.{queueOf}
 use Rattle.model.proofs.WellFormed.{of-distinct}
 use Rattle.protocol.specs.QueueTypes.{queueTypeOf}
-use Rattle.stream.proofs.Steps.{queue-words, queues-apart}
+use Rattle.stream.proofs.Steps.{queue-words, slots-distinct}
 use Rattle.completion.proofs.stops.stop_queue.Statement.{statement}
 use Rattle.completion.proofs.stops.stop_queue.Tie as tie
 
@@ -38,7 +38,7 @@ returns c =
       after-stop-answers .stop-answers .ensures .0,
       λ n b h.
           let q = queueTypeOf (start .args .queue) in
-          after-stop-answers .stop-answers .ensures .1 (queueOf q b) q (of-distinct (queueOf q b .slots) (queues-apart h q)) (queue-words h q _ (after-queue-start .queue-start .ensures .1)),
+          after-stop-answers .stop-answers .ensures .1 (queueOf q b) q (of-distinct (queueOf q b .slots) (slots-distinct h q)) (queue-words h q _ (after-queue-start .queue-start .ensures .1)),
     )
 
 pub stop-queue-spec : {M : Type 1} → statement M

@@ -5,10 +5,9 @@ use Prim.Native.Nat.{ℕ}
 use lib.ListN.{length}
 use Rattle.model.specs.Answers.{invalidOperation, invalidParameter}
 use Rattle.model.specs.Steps.{around}
-use Rattle.model.specs.Frames.{commandOf, commandType}
+use Rattle.model.specs.Frames.{ruleOf, commandType}
 use Rattle.frame.specs.declared.commands.Checked.{Checked}
-use Rattle.frame.specs.Meant.{verdict, verdictOf}
-use Rattle.device.specs.Served.{verdictFor}
+use Rattle.frame.specs.Meant.{verdict, verdictOf, verdictFor}
 use Rattle.device.proofs.Known.{unfit}
 use Rattle.device.proofs.Served.{error-served, of-stream}
 use borrow.Author.Needs.{needs}
@@ -16,8 +15,8 @@ use Rattle.device.proofs.commands.command.Statement.{statement}
 use Rattle.device.proofs.commands.command.Tie as tie
 
 -- what was found of a frame's type, which was read as k, and its length
-told-by : (f : List ℕ) {k : ℕ} {r s : Checked} → k ≡ commandType f → verdictOf r ≡ verdict (commandOf k) (length f) → r ≡ s → verdictFor f ≡ verdictOf s
-told-by f is e found = ap (λ (n : ℕ). verdict (commandOf n) (length f)) (sym is) ∙ sym e ∙ ap verdictOf found
+told-by : (f : List ℕ) {k : ℕ} {r s : Checked} → k ≡ commandType f → verdictOf r ≡ verdict (ruleOf k) (length f) → r ≡ s → verdictFor f ≡ verdictOf s
+told-by f is e found = ap (λ (n : ℕ). verdict (ruleOf n) (length f)) (sym is) ∙ sym e ∙ ap verdictOf found
 
 kind-requires : tie.Need-kind-requires
 kind-requires c κs = search needs

@@ -4,60 +4,60 @@ use mathlib.Core.Path.{_≡_, sym}
 use Prim.Native.Nat.{ℕ}
 use lib.Dec.{eqb}
 use borrow.Author.Tests.{ne-eqb}
-use Rattle.model.specs.Frames.{commandOf}
+use Rattle.model.specs.Frames.{ruleOf}
 use Rattle.frame.proofs.commands.rule_of.Statement.{statement}
 use Rattle.frame.proofs.commands.rule_of.Tie as tie
 
 returns : tie.Need-returns
-unfolding commandOf
+unfolding ruleOf
 returns c n = rw (c .match .keys1)
 
 returns-2 : tie.Need-returns-2
-unfolding commandOf
+unfolding ruleOf
 returns-2 c n = rw (c .match .keys2)
 
 returns-3 : tie.Need-returns-3
-unfolding commandOf
+unfolding ruleOf
 returns-3 c n = rw (c .match .keys3)
 
 returns-4 : tie.Need-returns-4
-unfolding commandOf
+unfolding ruleOf
 returns-4 c n = rw (c .match .keys4)
 
 returns-5 : tie.Need-returns-5
-unfolding commandOf
+unfolding ruleOf
 returns-5 c n = rw (c .match .keys5)
 
 returns-6 : tie.Need-returns-6
-unfolding commandOf
+unfolding ruleOf
 returns-6 c n = rw (c .match .keys6)
 
 returns-7 : tie.Need-returns-7
-unfolding commandOf
+unfolding ruleOf
 returns-7 c n = rw (c .match .keys7)
 
 returns-8 : tie.Need-returns-8
-unfolding commandOf
+unfolding ruleOf
 returns-8 c n = rw (c .match .keys8)
 
 returns-9 : tie.Need-returns-9
-unfolding commandOf
+unfolding ruleOf
 returns-9 c n = rw (c .match .keys9)
 
 returns-10 : tie.Need-returns-10
-unfolding commandOf
+unfolding ruleOf
 returns-10 c n = rw (c .match .keys10)
 
 returns-11 : tie.Need-returns-11
-unfolding commandOf
+unfolding ruleOf
 returns-11 c n = rw (c .match .keys11)
 
 returns-12 : tie.Need-returns-12
-unfolding commandOf
+unfolding ruleOf
 returns-12 c n = rw (c .match .keys12)
 
 returns-13 : tie.Need-returns-13
-unfolding commandOf
+unfolding ruleOf
 returns-13 c n =
     let r = c .match .rest in
     rw (
