@@ -4,16 +4,18 @@ use mathlib.Core.Bool.{true, false}
 use mathlib.Core.Option.{Option, none, some}
 use mathlib.Core.List.{List, [], _∷_}
 use Prim.Native.Nat.{ℕ}
+use Rattle.laws.specs.InOrder.{byTests}
+use Rattle.laws.proofs.InOrder.{tests-hit, tests-miss}
 use Rattle.model.specs.Device.{Stream, newStream}
 use Rattle.model.specs.Frames.{LiveCommand, Command, create, live, codedFormat}
 use Rattle.model.specs.Answers.{ErrorCode, outOfMemory, invalidStream, invalidParameter, success}
-use Rattle.model.specs.Replies.{reply, Request, fail, byTests}
+use Rattle.model.specs.Replies.{reply, Request, fail}
 use Rattle.model.specs.Commands.{Surroundings, succeed, onCreate, onLive, onStream}
 use Rattle.model.specs.Steps.{command, serve}
 use Rattle.answer.specs.Answer.{answerTo}
 use Rattle.frame.specs.Frame.{goodCreation}
 use Rattle.frame.specs.Meant.{wrong, right, verdictFor}
-use Rattle.frame.proofs.Checks.{tests-hit, tests-miss, wrong-frame, right-frame, creation-bad, creation-good}
+use Rattle.frame.proofs.Checks.{wrong-frame, right-frame, creation-bad, creation-good}
 use Rattle.stream.specs.Replied.{requestTo}
 
 module _ (f : List ℕ) (around : Surroundings) (n t : ℕ) where
@@ -52,9 +54,9 @@ module _ (f : List ℕ) (around : Surroundings) (n t : ℕ) where
 
       module _ (good : goodCreation f ≡ true) where
         pub create-full : around .full ≡ true → serve around n self (command t f) ≡ fail (asks self) outOfMemory
-        create-full full = creation ∙ creation-good around (asks self) good ∙ tests-hit (asks self) (around .full) outOfMemory _ full
+        create-full full = creation ∙ creation-good around (asks self) good ∙ tests-hit (fail (asks self)) (around .full) outOfMemory _ full
 
         pub create-done : around .full ≡ false → serve around n self (command t f) ≡ reply (answerTo t n success ∷ []) (some (newStream (codedFormat f)))
         unfolding byTests
         create-done room =
-            creation ∙ creation-good around (asks self) good ∙ tests-miss (asks self) (around .full) outOfMemory (succeed (asks self) (some (newStream (codedFormat f)))) room
+            creation ∙ creation-good around (asks self) good ∙ tests-miss (fail (asks self)) (around .full) outOfMemory (succeed (asks self) (some (newStream (codedFormat f)))) room

@@ -8,46 +8,19 @@ use lib.Dec.{ltb, eqb}
 use lib.ListN.{length}
 use borrow.Author.Tests.{eqb-true, ltb-false, not-false}
 use Rattle.laws.specs.Tests.{within}
-use Rattle.laws.proofs.Lists.{decide}
+use Rattle.laws.specs.InOrder.{_⇒_then_, byTests}
+use Rattle.laws.proofs.Lists.{decide, each-map}
+use Rattle.laws.proofs.InOrder.{tests-both, tests-twice, when-bad, when-good}
 use Rattle.model.specs.Numbers.{firstCoded, lastCoded}
 use Rattle.model.specs.Device.{QueueType, Stream}
 use Rattle.model.specs.Frames.{Command, LengthRule, exactly, atLeast, CommandRule, commands, ruleOf, wrongLength, commandType, inMemType, outMemType, codedFormat, planesLayout, numPlanes, entries, entryBytes, numDataSizes, formatSent, frameWidth}
 use Rattle.model.specs.Answers.{ErrorCode, invalidParameter}
-use Rattle.model.specs.Replies.{Reply, Request, fail, Tests, _⇒_then_, byTests}
+use Rattle.model.specs.Replies.{Reply, Request, fail}
 use Rattle.model.specs.Commands.{Surroundings, onCreate, badEntry, onCreateResource, onQueue, formatOf, goodExtent, onSet, onStream, onRule, onCommand}
-use Rattle.model.proofs.Rules.{each-rule, by-type}
+use Rattle.model.proofs.Rules.{by-type}
 use Rattle.frame.specs.Frame.{goodCreation, entrySum, goodEntries, goodResource, goodSizes, goodSet}
 use Rattle.frame.specs.Meant.{Verdict, wrong, right, verdict, verdictFor, leastLength}
 use Rattle.frame.specs.Rest.{restOfCreate, restOfResource, restOfQueue, restOfSet}
-
--- Tests in order
-
--- a test that hits, and one that does not
-pub tests-hit : (c : Request) (t : Bool) (e : ErrorCode) (ts : Tests) → t ≡ true → byTests c (t ⇒ e then ts) ≡ fail c e
-unfolding byTests
-tests-hit c t e ts h = rw h
-
-pub tests-miss : (c : Request) (t : Bool) (e : ErrorCode) (ts : Tests) → t ≡ false → byTests c (t ⇒ e then ts) ≡ byTests c ts
-unfolding byTests
-tests-miss c t e ts h = rw h
-
--- two tests for one error, and a test behind two negations
-tests-both : (c : Request) (e : ErrorCode) (a b : Bool) (us ts : Tests) → byTests c us ≡ byTests c (not b ⇒ e then ts) → byTests c (not a ⇒ e then us) ≡ byTests c (not (a && b) ⇒ e then ts)
-unfolding byTests
-tests-both c e true b us ts h = h
-tests-both c e false b us ts h = refl
-
-tests-twice : (c : Request) (e : ErrorCode) (t : Bool) (ts : Tests) → byTests c (t ⇒ e then ts) ≡ byTests c (not (not t) ⇒ e then ts)
-unfolding byTests
-tests-twice c e true ts = refl
-tests-twice c e false ts = refl
-
--- a list of tests that starts with the test of a check
-when-bad : {v : Reply} (c : Request) (good : Bool) (ts : Tests) → v ≡ byTests c (not good ⇒ invalidParameter then ts) → good ≡ false → v ≡ fail c invalidParameter
-when-bad c good ts e h = e ∙ tests-hit c (not good) invalidParameter ts (rw h)
-
-when-good : {v : Reply} (c : Request) (good : Bool) (ts : Tests) → v ≡ byTests c (not good ⇒ invalidParameter then ts) → good ≡ true → v ≡ byTests c ts
-when-good c good ts e h = e ∙ tests-miss c (not good) invalidParameter ts (rw h)
 
 -- Type and length
 
@@ -92,69 +65,69 @@ rule-length n l is k e =
 pub right-length : (ty n : ℕ) (k : Command) → verdict (ruleOf ty) n ≡ right k → leastLength k ≤ n
 right-length ty n =
     by-type (λ ty o. (k : Command) → verdict o n ≡ right k → leastLength k ≤ n)
-    (each-rule (λ l. leastOf (l .lengthRule) ≡ leastLength (l .command)) (λ l. (k : Command) → verdict (some l) n ≡ right k → leastLength k ≤ n) (rule-length n) commands
+    (each-map (λ l. leastOf (l .lengthRule) ≡ leastLength (l .command)) (λ l. (k : Command) → verdict (some l) n ≡ right k → leastLength k ≤ n) (rule-length n) commands
     (refl, (refl, (refl, (refl, (refl, (refl, (refl, (refl, (refl, (refl, (refl, (refl, tt)))))))))))))
     (λ ty k e. absurd (let z : _≡_ {A = ℕ} 0 1 = cc in omega arith)) ty
 
 -- 0x0101
 module _ (around : Surroundings) (c : Request) where
-  pub creation-tests : onCreate around c ≡ byTests c (not (goodCreation (c .frame)) ⇒ invalidParameter then restOfCreate around c)
+  pub creation-tests : onCreate around c ≡ byTests (fail c) (not (goodCreation (c .frame)) ⇒ invalidParameter then restOfCreate around c)
   unfolding onCreate goodCreation
   creation-tests =
       let f = c .frame in
       let e = invalidParameter in
       let rest = restOfCreate around c in
-      tests-both c e (eqb (inMemType f) 0) _ _ rest
-      (tests-both c e (eqb (outMemType f) 0) _ _ rest
-      (tests-both c e (within (codedFormat f) firstCoded lastCoded) _ _ rest refl))
+      tests-both (fail c) e (eqb (inMemType f) 0) _ _ rest
+      (tests-both (fail c) e (eqb (outMemType f) 0) _ _ rest
+      (tests-both (fail c) e (within (codedFormat f) firstCoded lastCoded) _ _ rest refl))
 
   pub creation-bad : goodCreation (c .frame) ≡ false → onCreate around c ≡ fail c invalidParameter
-  creation-bad h = when-bad c (goodCreation (c .frame)) (restOfCreate around c) creation-tests h
+  creation-bad h = when-bad (fail c) invalidParameter (goodCreation (c .frame)) (restOfCreate around c) creation-tests h
 
-  pub creation-good : goodCreation (c .frame) ≡ true → onCreate around c ≡ byTests c (restOfCreate around c)
-  creation-good h = when-good c (goodCreation (c .frame)) (restOfCreate around c) creation-tests h
+  pub creation-good : goodCreation (c .frame) ≡ true → onCreate around c ≡ byTests (fail c) (restOfCreate around c)
+  creation-good h = when-good (fail c) invalidParameter (goodCreation (c .frame)) (restOfCreate around c) creation-tests h
 
 -- 0x0104 to 0x0109, to the queue q of a stream b
 module _ (c : Request) (b : Stream) (q : QueueType) where
-  pub resource-tests : onCreateResource c b q ≡ byTests c (not (goodResource (c .frame)) ⇒ invalidParameter then restOfResource c b q)
+  pub resource-tests : onCreateResource c b q ≡ byTests (fail c) (not (goodResource (c .frame)) ⇒ invalidParameter then restOfResource c b q)
   unfolding onCreateResource goodResource goodEntries
   resource-tests =
       let f = c .frame in
       let e = invalidParameter in
       let rest = restOfResource c b q in
-      tests-both c e (within (planesLayout f) 1 2) _ _ rest
-      (tests-both c e (within (numPlanes f) 1 8) _ _ rest
-      (tests-both c e (within (entrySum f) 1 256) _ _ rest
-      (tests-both c e (eqb (length f) (88 + entryBytes * entrySum f)) _ _ rest
-      (tests-twice c e (badEntry (entrySum f) (entries f)) rest))))
+      tests-both (fail c) e (within (planesLayout f) 1 2) _ _ rest
+      (tests-both (fail c) e (within (numPlanes f) 1 8) _ _ rest
+      (tests-both (fail c) e (within (entrySum f) 1 256) _ _ rest
+      (tests-both (fail c) e (eqb (length f) (88 + entryBytes * entrySum f)) _ _ rest
+      (tests-twice (fail c) e (badEntry (entrySum f) (entries f)) rest))))
 
   pub resource-bad : goodResource (c .frame) ≡ false → onCreateResource c b q ≡ fail c invalidParameter
-  resource-bad g = when-bad c (goodResource (c .frame)) (restOfResource c b q) resource-tests g
+  resource-bad g = when-bad (fail c) invalidParameter (goodResource (c .frame)) (restOfResource c b q) resource-tests g
 
-  pub resource-good : goodResource (c .frame) ≡ true → onCreateResource c b q ≡ byTests c (restOfResource c b q)
-  resource-good g = when-good c (goodResource (c .frame)) (restOfResource c b q) resource-tests g
+  pub resource-good : goodResource (c .frame) ≡ true → onCreateResource c b q ≡ byTests (fail c) (restOfResource c b q)
+  resource-good g = when-good (fail c) invalidParameter (goodResource (c .frame)) (restOfResource c b q) resource-tests g
 
-  pub queue-tests : onQueue c b q ≡ byTests c (not (goodSizes (c .frame)) ⇒ invalidParameter then restOfQueue c b q)
+  pub queue-tests : onQueue c b q ≡ byTests (fail c) (not (goodSizes (c .frame)) ⇒ invalidParameter then restOfQueue c b q)
   unfolding onQueue goodSizes
-  queue-tests = tests-twice c invalidParameter (ltb 8 (numDataSizes (c .frame))) (restOfQueue c b q)
+  queue-tests = tests-twice (fail c) invalidParameter (ltb 8 (numDataSizes (c .frame))) (restOfQueue c b q)
 
   pub queue-bad : goodSizes (c .frame) ≡ false → onQueue c b q ≡ fail c invalidParameter
-  queue-bad g = when-bad c (goodSizes (c .frame)) (restOfQueue c b q) queue-tests g
+  queue-bad g = when-bad (fail c) invalidParameter (goodSizes (c .frame)) (restOfQueue c b q) queue-tests g
 
-  pub queue-good : goodSizes (c .frame) ≡ true → onQueue c b q ≡ byTests c (restOfQueue c b q)
-  queue-good g = when-good c (goodSizes (c .frame)) (restOfQueue c b q) queue-tests g
+  pub queue-good : goodSizes (c .frame) ≡ true → onQueue c b q ≡ byTests (fail c) (restOfQueue c b q)
+  queue-good g = when-good (fail c) invalidParameter (goodSizes (c .frame)) (restOfQueue c b q) queue-tests g
 
-  pub set-tests : onSet c b q ≡ byTests c (not (goodSet (formatOf q b) (c .frame)) ⇒ invalidParameter then restOfSet c b q)
+  pub set-tests : onSet c b q ≡ byTests (fail c) (not (goodSet (formatOf q b) (c .frame)) ⇒ invalidParameter then restOfSet c b q)
   unfolding onSet goodSet
   set-tests =
       let f = c .frame in
       let e = invalidParameter in
       let rest = restOfSet c b q in
-      tests-both c e (eqb (formatSent f) (formatOf q b)) _ _ rest
-      (tests-both c e (goodExtent (frameWidth f)) _ _ rest refl)
+      tests-both (fail c) e (eqb (formatSent f) (formatOf q b)) _ _ rest
+      (tests-both (fail c) e (goodExtent (frameWidth f)) _ _ rest refl)
 
   pub set-bad : goodSet (formatOf q b) (c .frame) ≡ false → onSet c b q ≡ fail c invalidParameter
-  set-bad g = when-bad c (goodSet (formatOf q b) (c .frame)) (restOfSet c b q) set-tests g
+  set-bad g = when-bad (fail c) invalidParameter (goodSet (formatOf q b) (c .frame)) (restOfSet c b q) set-tests g
 
-  pub set-good : goodSet (formatOf q b) (c .frame) ≡ true → onSet c b q ≡ byTests c (restOfSet c b q)
-  set-good g = when-good c (goodSet (formatOf q b) (c .frame)) (restOfSet c b q) set-tests g
+  pub set-good : goodSet (formatOf q b) (c .frame) ≡ true → onSet c b q ≡ byTests (fail c) (restOfSet c b q)
+  set-good g = when-good (fail c) invalidParameter (goodSet (formatOf q b) (c .frame)) (restOfSet c b q) set-tests g

@@ -1,5 +1,6 @@
 pub mod Tests
 pub mod Lists
+pub mod InOrder
 pub mod Ascending
 pub mod Table
 pub mod Positions

@@ -24,6 +24,16 @@ pub cond-elim : {A : Type 0} (P : A → Type 0) (t : Bool) {x y : A} → (t ≡ 
 cond-elim P true a b = a refl
 cond-elim P false a b = b refl
 
+-- what holds of every element of a list
+module _ {A : Type 0} where
+  abbrev pub Each : (A → Type 0) → List A → Type 0
+  Each P [] = Unit {0}
+  Each P (x ∷ l) = P x × Each P l
+
+  pub each-map : (P Q : A → Type 0) → ((x : A) → P x → Q x) → (l : List A) → Each P l → Each Q l
+  each-map P Q h [] e = tt
+  each-map P Q h (x ∷ l) e = (h x (e .0), each-map P Q h l (e .1))
+
 -- a number is its own equal, and unequal both ways
 pub eqb-same : (n : ℕ) → eqb n n ≡ true
 eqb-same n = eq-eqb n n refl

@@ -1,4 +1,5 @@
 pub mod Tests
+pub mod InOrder
 pub mod Lists
 pub mod Ascending
 pub mod Parts

@@ -2,11 +2,11 @@
 use mathlib.Core.Path.{_≡_, refl, _∙_}
 use Rattle.laws.specs.Tests.{within}
 use Rattle.laws.specs.Parts.{pieces, zeros}
+use Rattle.laws.specs.InOrder.{byTests}
 use Rattle.field.specs.Field.{field, littleEndian}
 use Rattle.model.specs.Device.{fresh, putRecord}
 use Rattle.model.specs.Answers.{responseBytes, readFrom}
 use Rattle.model.specs.Frames.{ruleOf}
-use Rattle.model.specs.Replies.{byTests}
 use Rattle.model.specs.Reports.{onDrained}
 use Rattle.model.specs.Commands.{onDrain, onCommand}
 use Rattle.model.specs.Steps.{streamOf, serve, hostRefusal, stepOn}

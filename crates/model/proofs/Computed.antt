@@ -3,13 +3,13 @@ use mathlib.Core.Path.{refl}
 use Rattle.laws.specs.Tests.{within}
 use Rattle.laws.specs.Lists.{same}
 use Rattle.laws.specs.Ascending.{insertBy, below, notBelow}
+use Rattle.laws.specs.InOrder.{byTests}
 use Rattle.field.specs.Field.{field, littleEndian}
 use Rattle.tag.specs.Utf8.{classOf, utf8After, utf8}
 use Rattle.tag.specs.Tag.{nulAt, goodTag}
 use Rattle.model.specs.Device.{fresh, putRecord}
 use Rattle.model.specs.Frames.{ruleOf, queueNamed}
 use Rattle.model.specs.Answers.{responseBytes, readFrom}
-use Rattle.model.specs.Replies.{byTests}
 use Rattle.model.specs.Commands.{onCreate, onDestroy, onDrain, onCreateResource, onQueue, onDestroyAll, onClear, parameterWords, onGet, onSet, onCommand}
 use Rattle.model.specs.Reports.{onFinish, onDrained}
 use Rattle.model.specs.Steps.{streamOf, serve, hostRefusal, stepOn, accepted, ownerOf, belongs, outOfMemoryAt}

@@ -9,6 +9,7 @@ use lib.ListN.{length}
 use lib.Dec.{eqb}
 use Rattle.laws.specs.Tests.{within}
 use Rattle.laws.specs.Lists.{howMany}
+use Rattle.laws.specs.InOrder.{byTests}
 use Rattle.laws.proofs.Tests.{never}
 use Rattle.laws.proofs.Lists.{decide}
 use Rattle.field.specs.Field.{field, littleEndian}
@@ -17,7 +18,7 @@ use Rattle.model.specs.Numbers.{firstCoded, lastCoded}
 use Rattle.model.specs.Device.{Stream, Place, vacant, occupied, recordOf, noPlace}
 use Rattle.model.specs.Frames.{create, exactly, CommandRule, _is_ofLength_, ruleOf, wrongLength, commandType, inMemType, outMemType, codedFormat}
 use Rattle.model.specs.Answers.{invalidOperation, invalidParameter, responseBytes, readFrom}
-use Rattle.model.specs.Replies.{Reply, Request, fail, byTests}
+use Rattle.model.specs.Replies.{Reply, Request, fail}
 use Rattle.model.specs.Commands.{Surroundings, withFull, onCreate, onStream, onRule, onCommand}
 use Rattle.model.specs.Steps.{Act, command, finish, drained, serve, DeviceReply, around, eventOf, isCreation, outOfMemoryAt}
 use Rattle.model.specs.Promises.{isLive, FullAtEight}

@@ -9,22 +9,23 @@ use lib.Dec.{eqb, ltb}
 use borrow.Author.Tests.{eqb-true}
 use Rattle.laws.specs.Tests.{within}
 use Rattle.laws.specs.Lists.{anyOf}
+use Rattle.laws.specs.InOrder.{byTests}
 use Rattle.laws.proofs.Tests.{never}
-use Rattle.laws.proofs.Lists.{decide, cond-elim, eqb-same, any-head, any-tail, none-is}
+use Rattle.laws.proofs.Lists.{decide, cond-elim, eqb-same, any-head, any-tail, none-is, each-map}
+use Rattle.laws.proofs.InOrder.{walk}
 use Rattle.field.specs.Field.{field, littleEndian}
 use Rattle.tag.specs.Tag.{goodTag, tagIn}
 use Rattle.model.specs.Numbers.{tableWords, firstCoded, lastCoded}
 use Rattle.model.specs.Device.{Stream, Place, vacant, Device, fresh, recordOf, noPlace, place, putRecord, withPlaces}
 use Rattle.model.specs.Frames.{LiveCommand, Command, create, live, CommandRule, commands, ruleOf, wrongLength, commandType, inMemType, outMemType, codedFormat}
 use Rattle.model.specs.Answers.{outOfMemory, bytesOf, responseBytes, readFrom, answersIn}
-use Rattle.model.specs.Replies.{Reply, Request, fail, byTests}
+use Rattle.model.specs.Replies.{Reply, Request, fail}
 use Rattle.model.specs.Commands.{Surroundings, withFull, onCreate, onStream, onRule, onCommand}
 use Rattle.model.specs.Reports.{onFinish, onDrained}
 use Rattle.model.specs.Steps.{Act, command, finish, drained, Step, streamOf, serve, DeviceReply, refused, around, performOf, perform, hostRefusal, stepOn, Event, eventOf, eventsOf, final, isOwner, ownerOf, belongs, isCreation, saysFull, outOfMemoryAt}
 use Rattle.model.specs.Condition3.{ownEvents, stepsOf}
 use Rattle.model.proofs.Places.{put-same, put-other}
-use Rattle.model.proofs.Walk.{walk}
-use Rattle.model.proofs.Rules.{each-rule, by-type}
+use Rattle.model.proofs.Rules.{by-type}
 
 abbrev withFullness : Surroundings → Surroundings
 withFullness around = withFull true around
@@ -43,7 +44,7 @@ request-next around n t f none = refl
 request-next around n t f (some l) = cond-elim StaysNone (wrongLength (l .lengthRule) (length f)) (λ _. refl) (λ _. of (l .command))
   where
     of : (x : Command) → StaysNone (onStream (withFullness around) (record { stream = n; ticket = t; frame = f; self = none }) x none)
-    of create = walk StaysNone (record { stream = n; ticket = t; frame = f; self = none }) _ (λ e. refl) (λ h₁ h₂ h₃ h₄ h₅. never h₅)
+    of create = walk StaysNone (fail (record { stream = n; ticket = t; frame = f; self = none })) _ (λ e. refl) (λ h₁ h₂ h₃ h₄ h₅. never h₅)
     of (live k) = refl
 
 serve-next : (around : Surroundings) (n : ℕ) (a : Act) → StaysNone (serve (withFullness around) n none a)
@@ -89,7 +90,7 @@ line-full around c l is h =
 command-full : (around : Surroundings) (c : Request) (ty : ℕ) → SameLine around ty c (ruleOf ty)
 command-full around c =
     by-type (λ ty l. SameLine around ty c l)
-    (each-rule (λ l. l .command ≡ create → eqb (l .type) 0x0101 ≡ true) (λ l. SameLine around (l .type) c (some l)) (line-full around c) commands
+    (each-map (λ l. l .command ≡ create → eqb (l .type) 0x0101 ≡ true) (λ l. SameLine around (l .type) c (some l)) (line-full around c) commands
     (λ _. refl, (no, (no, (no, (no, (no, (no, (no, (no, (no, (no, (no, tt)))))))))))))
     (λ ty h. refl)
   where

@@ -1,6 +1,5 @@
 pub mod Computed
 pub mod Slots
-pub mod Walk
 pub mod Rules
 pub mod LedgerView
 pub mod Fits

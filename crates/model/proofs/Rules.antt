@@ -5,18 +5,9 @@ use mathlib.Core.Option.{Option, none, some}
 use mathlib.Core.List.{List, [], _∷_}
 use lib.Dec.{eqb}
 use borrow.Author.Tests.{eqb-true}
-use Rattle.laws.proofs.Lists.{decide}
+use Rattle.laws.proofs.Lists.{decide, Each}
 use Rattle.model.specs.Device.{QueueType, input, output}
 use Rattle.model.specs.Frames.{CommandRule, commands, ruleIn, ruleOf, queueNumber, queueNamed}
-
--- what holds of every rule of a list
-abbrev pub Each : (CommandRule → Type 0) → List CommandRule → Type 0
-Each P [] = Unit {0}
-Each P (l ∷ ls) = P l × Each P ls
-
-pub each-rule : (P Q : CommandRule → Type 0) → ((l : CommandRule) → P l → Q l) → (ls : List CommandRule) → Each P ls → Each Q ls
-each-rule P Q h [] e = tt
-each-rule P Q h (l ∷ ls) e = (h l (e .0), each-rule P Q h ls (e .1))
 
 -- what holds of every rule with its type, and of every type without a rule, holds of every type
 by-rule : (P : ℕ → Option CommandRule → Type 0) (ls : List CommandRule) → Each (λ l. P (l .type) (some l)) ls → ((ty : ℕ) → P ty none) → (ty : ℕ) → P ty (ruleIn ty ls)

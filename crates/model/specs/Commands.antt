@@ -8,13 +8,14 @@ use mathlib.Core.List.{List, [], _∷_, _++_, map}
 use lib.ListN.{length, take, drop, replicate}
 use lib.Dec.{eqb, ltb}
 use Rattle.laws.specs.Tests.{within}
+use Rattle.laws.specs.InOrder.{Tests, accept, _⇒_then_, byTests}
 use Rattle.laws.specs.Lists.{isEmpty, isNone, toList, total}
 use Rattle.tag.specs.Tag.{goodTag, tagIn}
 use Rattle.model.specs.Numbers.{queueSlots, maxPlanes, firstCoded, lastCoded, nv12, err}
 use Rattle.model.specs.Device.{QueueType, input, output, queued, Queue, Stream, newStream, queueOf, withQueue, withDrain, withSlots, Buffer, queuedIn, buffers, bufferOf, present, noSlot, addResource, setState, stopAll, freeAll}
 use Rattle.model.specs.Frames.{QueueCommand, createResource, queueResource, destroyAll, clear, getParameters, setParameters, LiveCommand, destroy, drain, control, toQueue, Command, create, live, CommandRule, ruleOf, wrongLength, queueNumber, queueNamed, commandType, inMemType, outMemType, codedFormat, queueType, resourceId, planesLayout, numPlanes, numEntries, entriesStart, entries, entryBytes, entryAddr, entryLength, timestampSent, numDataSizes, formatSent, frameWidth, frameHeight, frameRate}
-use Rattle.model.specs.Answers.{invalidOperation, outOfMemory, invalidStream, invalidResource, invalidParameter, unsupportedControl, success, bufferDone, drainDone, parameters, Answer}
-use Rattle.model.specs.Replies.{Reply, reply, Request, own, fail, Tests, accept, _⇒_then_, byTests}
+use Rattle.model.specs.Answers.{ErrorCode, invalidOperation, outOfMemory, invalidStream, invalidResource, invalidParameter, unsupportedControl, success, bufferDone, drainDone, parameters, Answer}
+use Rattle.model.specs.Replies.{Reply, reply, Request, own, fail}
 
 -- what a creation sees besides its own stream: whether every stream place holds something
 pub record Surroundings : Type 0 where
@@ -25,14 +26,14 @@ abbrev pub withFull : Bool → Surroundings → Surroundings
 withFull f around = record { full = f }
 
 -- plain success, and the record that is left
-abbrev pub succeed : Request → Option Stream → Tests
+abbrev pub succeed : Request → Option Stream → Tests ErrorCode Reply
 succeed c next = accept (reply (own c success ∷ []) next)
 
 -- 0x0101 create
 unfoldable pub onCreate : Surroundings → Request → Reply
 onCreate around c =
     let f = c .frame in
-    byTests c
+    byTests (fail c)
     (not (eqb (inMemType f) 0) ⇒ invalidParameter then
     not (eqb (outMemType f) 0) ⇒ invalidParameter then
     not (within (codedFormat f) firstCoded lastCoded) ⇒ invalidParameter then
@@ -59,7 +60,7 @@ onDestroy c b =
 -- 0x0103 drain
 unfoldable pub onDrain : Request → Stream → Reply
 onDrain c b =
-    byTests c
+    byTests (fail c)
     (not (isNone (b .draining)) ⇒ invalidOperation then
     accept (reply [] (some (withDrain (some (c .ticket)) b))))
 
@@ -75,7 +76,7 @@ onCreateResource c b q =
     let r = resourceId f in
     let s = queueOf q b .slots in
     let sum = total (take (numPlanes f) (numEntries f)) in
-    byTests c
+    byTests (fail c)
     (not (within (planesLayout f) 1 2) ⇒ invalidParameter then
     not (within (numPlanes f) 1 maxPlanes) ⇒ invalidParameter then
     not (within sum 1 256) ⇒ invalidParameter then
@@ -96,7 +97,7 @@ onQueue c b q =
     let f = c .frame in
     let r = resourceId f in
     let s = queueOf q b .slots in
-    byTests c
+    byTests (fail c)
     (ltb maxPlanes (numDataSizes f) ⇒ invalidParameter then
     isInput q && not (isNone (b .draining)) ⇒ invalidOperation then
     queueOf q b .clearing ⇒ invalidOperation then
@@ -108,7 +109,7 @@ onQueue c b q =
 unfoldable pub onDestroyAll : Request → Stream → QueueType → Reply
 onDestroyAll c b q =
     let s = queueOf q b .slots in
-    byTests c
+    byTests (fail c)
     (not (isEmpty (queuedIn s)) ⇒ invalidOperation then
     succeed c (some (withQueue q (withSlots (freeAll s) (queueOf q b)) b)))
 
@@ -170,7 +171,7 @@ withParameters w h rate q = record { width = w; height = h; rate = rate; clearin
 unfoldable pub onSet : Request → Stream → QueueType → Reply
 onSet c b q =
     let f = c .frame in
-    byTests c
+    byTests (fail c)
     (not (eqb (formatSent f) (formatOf q b)) ⇒ invalidParameter then
     badExtent (frameWidth f) ⇒ invalidParameter then
     badExtent (frameHeight f) ⇒ invalidParameter then

@@ -1,12 +1,10 @@
--- What a step of one stream gives, and tests in order of which the first hit answers.
+-- What a step of one stream gives, and what a command is told.
 use Prim.Native.Nat.{ℕ}
-use mathlib.Core.Bool.{Bool, cond}
 use mathlib.Core.Option.{Option}
 use mathlib.Core.List.{List, [], _∷_}
 use Rattle.model.specs.Device.{Stream}
 use Rattle.model.specs.Answers.{ErrorCode, Response, failure, Answer}
 
-infixr 5 _⇒_then_
 -- a refusal number or 0, the answers, and the record that the stream is left with
 pub record Reply : Type 0 where
   pub refusal : ℕ
@@ -35,13 +33,3 @@ own c r = record { ticket = c .ticket; stream = c .stream; response = r }
 -- an error answer: the record stays
 abbrev pub fail : Request → ErrorCode → Reply
 fail c e = reply (own c (failure e) ∷ []) (c .self)
-
--- tests in order: the first that hits answers its error
-pub data Tests : Type 0 where
-  accept : Reply → Tests
-  _⇒_then_ : Bool → ErrorCode → Tests → Tests
-
--- what the tests give
-unfoldable pub byTests : Request → Tests → Reply
-byTests c (accept v) = v
-byTests c (hit ⇒ e then ts) = cond hit (fail c e) (byTests c ts)

@@ -1,0 +1,55 @@
+-- Laws of tests in order.
+use mathlib.Core.Path.{_≡_, refl, _∙_}
+use mathlib.Core.Bool.{Bool, true, false, not, _&&_, _||_}
+use Rattle.laws.specs.InOrder.{Tests, accept, _⇒_then_, byTests}
+use Rattle.laws.proofs.Lists.{cond-elim}
+
+module _ {E A : Type 0} where
+  -- a property where no test hits
+  abbrev pub Passed : (A → Type 0) → Tests E A → Type 0
+  Passed P (accept v) = P v
+  Passed P (hit ⇒ e then ts) = hit ≡ false → Passed P ts
+
+  -- a property of what the tests give: of each error, and where none hits
+  pub walk : (P : A → Type 0) (fail : E → A) (ts : Tests E A) → ((e : E) → P (fail e)) → Passed P ts → P (byTests fail ts)
+  unfolding byTests
+  walk P fail (accept v) fails h = h
+  walk P fail (hit ⇒ e then ts) fails h = cond-elim P hit (λ _. fails e) (λ z. walk P fail ts fails (h z))
+
+module _ {E A : Type 0} (fail : E → A) where
+  -- no test, a test that hits, and one that does not
+  pub tests-accept : (v : A) → byTests fail (accept v) ≡ v
+  unfolding byTests
+  tests-accept v = refl
+
+  pub tests-hit : (t : Bool) (e : E) (ts : Tests E A) → t ≡ true → byTests fail (t ⇒ e then ts) ≡ fail e
+  unfolding byTests
+  tests-hit t e ts h = rw h
+
+  pub tests-miss : (t : Bool) (e : E) (ts : Tests E A) → t ≡ false → byTests fail (t ⇒ e then ts) ≡ byTests fail ts
+  unfolding byTests
+  tests-miss t e ts h = rw h
+
+  -- two tests for one error, two for their negations, and a test behind two negations
+  pub tests-either : (s t : Bool) (e : E) (ts : Tests E A) → byTests fail (s ⇒ e then t ⇒ e then ts) ≡ byTests fail (s || t ⇒ e then ts)
+  unfolding byTests
+  tests-either true t e ts = refl
+  tests-either false t e ts = refl
+
+  pub tests-both : (e : E) (a b : Bool) (us ts : Tests E A) → byTests fail us ≡ byTests fail (not b ⇒ e then ts)
+      → byTests fail (not a ⇒ e then us) ≡ byTests fail (not (a && b) ⇒ e then ts)
+  unfolding byTests
+  tests-both e true b us ts h = h
+  tests-both e false b us ts h = refl
+
+  pub tests-twice : (e : E) (t : Bool) (ts : Tests E A) → byTests fail (t ⇒ e then ts) ≡ byTests fail (not (not t) ⇒ e then ts)
+  unfolding byTests
+  tests-twice e true ts = refl
+  tests-twice e false ts = refl
+
+  -- a list of tests that starts with the test of a check
+  pub when-bad : {v : A} (e : E) (good : Bool) (ts : Tests E A) → v ≡ byTests fail (not good ⇒ e then ts) → good ≡ false → v ≡ fail e
+  when-bad e good ts p h = p ∙ tests-hit (not good) e ts (rw h)
+
+  pub when-good : {v : A} (e : E) (good : Bool) (ts : Tests E A) → v ≡ byTests fail (not good ⇒ e then ts) → good ≡ true → v ≡ byTests fail ts
+  when-good e good ts p h = p ∙ tests-miss (not good) e ts (rw h)
