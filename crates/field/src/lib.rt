@@ -6,7 +6,7 @@ ghost use lib.Seq.{sets};
 ghost use Rattle.field.specs.Field.{field, littleEndian};
 
 // The number in the 2 bytes from `at`.
-fn read_u16(part: &[u8], at: usize) -> u16
+pub fn read_u16(part: &[u8], at: usize) -> u16
     requires { ⌜ at + 2 ≤ length (now part) ⌝ }
     ensures { λ r. ⌜ r ≡ field 2 (now (part .entry)) at ⌝ }
 {

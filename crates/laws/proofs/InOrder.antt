@@ -1,7 +1,10 @@
 -- Laws of tests in order.
 use mathlib.Core.Path.{_≡_, refl, _∙_}
+use mathlib.Core.Option.{none, some}
 use mathlib.Core.Bool.{Bool, true, false, not, _&&_, _||_}
-use Rattle.laws.specs.InOrder.{Tests, accept, _⇒_then_, byTests}
+use Prim.Native.Nat.{ℕ}
+use native.Mathlib.Omega.{arith}
+use Rattle.laws.specs.InOrder.{Tests, accept, _⇒_then_, byTests, firstHit}
 use Rattle.laws.proofs.Lists.{cond-elim}
 
 module _ {E A : Type 0} where
@@ -53,3 +56,28 @@ module _ {E A : Type 0} (fail : E → A) where
 
   pub when-good : {v : A} (e : E) (good : Bool) (ts : Tests E A) → v ≡ byTests fail (not good ⇒ e then ts) → good ≡ true → v ≡ byTests fail ts
   when-good e good ts p h = p ∙ tests-miss (not good) e ts (rw h)
+
+-- no test hits: neither the first nor one behind it
+pub no-hit : {E A : Type 0} (t : Bool) (e : E) (ts : Tests E A) → firstHit (t ⇒ e then ts) ≡ none → (t ≡ false) × (firstHit ts ≡ none)
+unfolding firstHit
+no-hit true e ts h = absurd (let z : _≡_ {A = ℕ} 0 1 = cc in omega arith)
+no-hit false e ts h = (refl, h)
+
+-- tests before others
+module _ {E A B : Type 0} where
+  abbrev pub ahead : Tests E B → Tests E A → Tests E A
+  ahead (accept v) us = us
+  ahead (hit ⇒ e then ts) us = hit ⇒ e then ahead ts us
+
+module _ {E A B : Type 0} (fail : E → A) where
+  pub ahead-hits : (e : E) (ts : Tests E B) (us : Tests E A) → firstHit ts ≡ some e → byTests fail (ahead ts us) ≡ fail e
+  unfolding byTests firstHit
+  ahead-hits e (accept v) us h = absurd (let z : _≡_ {A = ℕ} 0 1 = cc in omega arith)
+  ahead-hits e (true ⇒ x then ts) us h = let w : x ≡ e = cc in rw w
+  ahead-hits e (false ⇒ x then ts) us h = ahead-hits e ts us h
+
+  pub ahead-misses : (ts : Tests E B) (us : Tests E A) → firstHit ts ≡ none → byTests fail (ahead ts us) ≡ byTests fail us
+  unfolding byTests firstHit
+  ahead-misses (accept v) us h = refl
+  ahead-misses (true ⇒ x then ts) us h = absurd (let z : _≡_ {A = ℕ} 0 1 = cc in omega arith)
+  ahead-misses (false ⇒ x then ts) us h = ahead-misses ts us h

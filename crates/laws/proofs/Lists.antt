@@ -34,6 +34,10 @@ module _ {A : Type 0} where
   each-map P Q h [] e = tt
   each-map P Q h (x ∷ l) e = (h x (e .0), each-map P Q h l (e .1))
 
+  pub each-all : (p : A → Bool) (l : List A) → allOf p l ≡ true → Each (λ x. p x ≡ true) l
+  each-all p [] e = tt
+  each-all p (x ∷ l) e = (and-left (p x) (allOf p l) e, each-all p l (and-right (p x) (allOf p l) e))
+
 -- a number is its own equal, and unequal both ways
 pub eqb-same : (n : ℕ) → eqb n n ≡ true
 eqb-same n = eq-eqb n n refl

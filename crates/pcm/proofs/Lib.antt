@@ -1,0 +1,4 @@
+pub mod Machine
+pub mod Walks
+pub mod Ready
+pub mod Promises
