@@ -1,4 +1,4 @@
-# What the host tests share: counting, the archive, and Cargo's tests. To be sourced from the root of the repository, with the
+# What the host tests share: counting, the archives, and Cargo's tests. To be sourced from the root of the repository, with the
 # test's name in $test.
 passed=0 failed=0
 log=$(mktemp) || exit 2
@@ -19,17 +19,25 @@ part() {
     fi
 }
 
-# The archive of this repository, whatever the caller's environment says.
+# The archives of this repository, whatever the caller's environment says.
 export VIRTIO_VIDEO_LIB_DIR=$PWD/target/staticlib
 export CARGO_TARGET_DIR=$PWD/target/host/cargo
-archive=$VIRTIO_VIDEO_LIB_DIR/libdecoder.a
 mkdir -p "$VIRTIO_VIDEO_LIB_DIR" || exit 2
+archive_of() { echo "$VIRTIO_VIDEO_LIB_DIR/lib$1.a"; }
 
 # There, and not older than any source of the core.
 current() { [ -f "$1" ] && [ -z "$(find crates crates.txt -newer "$1" -print -quit)" ]; }
 archived() {
+    local archive
+    archive=$(archive_of "$1")
     current "$archive" && return
-    rm -f "$archive" && rt staticlib decoder >"$archive.log" 2>&1 && [ -f "$archive" ]
+    rm -f "$archive" && rt staticlib "$1" >"$archive.log" 2>&1 && [ -f "$archive" ]
+}
+# Both of them, since the Rust package links both.
+archives=(decoder sound)
+build_archives() {
+    local name
+    for name in "${archives[@]}"; do part "lib$name.a is built" archived "$name"; done
 }
 
 # Runs tests of the Rust package, each of which counts; what is handed on are Cargo's arguments.

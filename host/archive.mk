@@ -1,12 +1,14 @@
-# The archive and its header, for the Makefiles one folder down: paths are from there.
+# The archives and their headers, for the Makefiles one folder down: paths are from there.
 
 LIB_DIR ?= ../../target/staticlib
-ARCHIVE = $(LIB_DIR)/libdecoder.a
+DECODER = $(LIB_DIR)/libdecoder.a
+ARCHIVES = $(DECODER) $(LIB_DIR)/libsound.a
 INCLUDE = ../../include
-HEADER = $(INCLUDE)/virtio_video_decoder.h
+DECODER_HEADER = $(INCLUDE)/virtio_video_decoder.h
+HEADERS = $(DECODER_HEADER) $(INCLUDE)/virtio_sound_output.h
 
 .DEFAULT_GOAL = all
 
-$(ARCHIVE):
-	@echo "$@ is not there: run 'rt staticlib decoder' in the root of the repository" >&2
+$(ARCHIVES): $(LIB_DIR)/lib%.a:
+	@echo "$@ is not there: run 'rt staticlib $*' in the root of the repository" >&2
 	@exit 1

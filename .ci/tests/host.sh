@@ -1,5 +1,5 @@
 #!/usr/bin/env bash
-# The host's side: the archive, the C header, the host in C, and the Rust package with its tests and
+# The host's side: the archives, the C headers, the host in C, and the Rust package with its tests and
 # its example. Each part counts as one, and each test of Cargo too.
 # The last line is `N passed, M failed`, and the exit status is 0 exactly where M is 0.
 set -u
@@ -10,24 +10,37 @@ test=host
 build=$PWD/target/host/c
 mkdir -p "$build" || exit 2
 
-# No more and no fewer names than the four of the header.
+# No more and no fewer names than those of the header, which are given behind the archive's.
 exports() {
-    diff <(nm -g --defined-only "$archive" | sed -n 's/.* T //p' | LC_ALL=C sort) \
-        <(printf 'virtio_video_%s\n' command drained finish fresh)
+    local archive
+    archive=$(archive_of "$1")
+    shift
+    diff <(nm -g --defined-only "$archive" | sed -n 's/.* T //p' | LC_ALL=C sort) <(printf '%s\n' "$@")
 }
 # The report counts the functions whose contracts are assumed, where there are any.
-assumes_nothing() { grep '^logic=proved' "$archive.log" && ! grep 'axioms=' "$archive.log"; }
-part "the archive is built" archived
-part "its proof assumes no function's contract" assumes_nothing
-part "it exports the four functions" exports
+assumes_nothing() {
+    local report
+    report=$(archive_of "$1").log
+    grep '^logic=proved' "$report" && ! grep 'axioms=' "$report"
+}
+build_archives
+for name in "${archives[@]}"; do
+    part "the proof of lib$name.a assumes no function's contract" assumes_nothing "$name"
+done
+part "libdecoder.a exports the four functions" exports decoder virtio_video_{command,drained,finish,fresh}
+part "libsound.a exports its one function" exports sound virtio_snd_control
 
 warnings=(-Wall -Wextra -Wpedantic -Werror)
-for standard in c99 c11; do
-    part "the header as $standard" gcc -std=$standard "${warnings[@]}" -fsyntax-only -x c include/virtio_video_decoder.h
+headers=(include/virtio_video_decoder.h include/virtio_sound_output.h)
+for header in "${headers[@]}"; do
+    for standard in c99 c11; do
+        part "$header as $standard" gcc -std=$standard "${warnings[@]}" -fsyntax-only -x c "$header"
+    done
+    part "$header as c++17" g++ -std=c++17 "${warnings[@]}" -fsyntax-only -x c++ "$header"
 done
-part "the header as c++17" g++ -std=c++17 "${warnings[@]}" -fsyntax-only -x c++ include/virtio_video_decoder.h
+part "both headers in one file as c++17" g++ -std=c++17 "${warnings[@]}" -fsyntax-only -include "${headers[0]}" -x c++ "${headers[1]}"
 part "the fuzz entry compiles" gcc -std=gnu99 "${warnings[@]}" -fsyntax-only -Iinclude -DSTANDALONE host/fuzz/fuzz.c
-part "the host in C, with sanitizers" make -C host/c CC=gcc LIB_DIR="$VIRTIO_VIDEO_LIB_DIR" BUILD="$build" check
+part "the host in C, one program over both archives, with sanitizers" make -C host/c CC=gcc LIB_DIR="$VIRTIO_VIDEO_LIB_DIR" BUILD="$build" check
 
 # Every test of the package, the examples in its documentation too.
 # shellcheck disable=SC2119

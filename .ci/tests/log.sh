@@ -15,7 +15,7 @@ trap 'rm -f "$log" "$written" "$errors"' EXIT
 export VIDEO_LOG=$PWD/target/bin/video_log
 unset LOG_LINES SEED
 built() { rt check video_log && [ -x "$VIDEO_LOG" ]; }
-part "the archive is built" archived
+build_archives
 part "the program is built" built
 
 # Status 0, the expected bytes, and nothing in standard error.

@@ -1,12 +1,14 @@
 /*
- * A small host: it makes a device, plays a guest and a back end to it, and prints what the
- * guest gets. Each step's result and bytes are compared with those worked out by hand from
- * the draft and the scope; the exit status is 1 where any of them differs.
+ * A small host: it makes a decoder, plays a guest and a back end to it, and prints what the
+ * guest gets; then it does so with a sound device. Each step's result and bytes are compared
+ * with those worked out by hand from the drafts and the scope; the exit status is 1 where any
+ * of them differs.
  */
 #include <stdio.h>
 #include <stdlib.h>
 #include <string.h>
 
+#include "virtio_sound_output.h"
 #include "virtio_video_decoder.h"
 
 #define STREAM	7
@@ -104,12 +106,12 @@ static int digit(char c)
 }
 
 /*
- * Compares a step's result, and the room from its first byte to its last, with what is
- * expected: a refusal number, and the answers in hexadecimal with blanks between.
+ * Compares how many bytes were written, and the room from its first byte to its last, with
+ * what is expected: the answers in hexadecimal with blanks between.
  */
-static void expect(struct virtio_video_outcome outcome, uint32_t refusal, const char *hex)
+static void expect_bytes(uint32_t written, const char *hex)
 {
-	uint8_t bytes[VIRTIO_VIDEO_ANSWER_ROOM];
+	uint8_t bytes[sizeof(room)];
 	uint32_t count = 0;
 
 	memset(bytes, UNTOUCHED, sizeof(bytes));
@@ -122,17 +124,23 @@ static void expect(struct virtio_video_outcome outcome, uint32_t refusal, const 
 		hex += 2;
 	}
 
+	if (written != count)
+		wrong("the number of bytes");
+	if (memcmp(room, bytes, sizeof(room)) != 0)
+		wrong("the bytes");
+	memset(room, UNTOUCHED, sizeof(room));
+}
+
+/* Compares a step's result and answers with what is expected. */
+static void expect(struct virtio_video_outcome outcome, uint32_t refusal, const char *hex)
+{
 	if (outcome.refusal)
 		printf("    refused with %u\n", (unsigned)outcome.refusal);
 	else if (outcome.written <= sizeof(room))
 		show_answers(outcome.written);
 	if (outcome.refusal != refusal)
 		wrong("the result");
-	if (outcome.written != count)
-		wrong("the number of bytes");
-	if (memcmp(room, bytes, sizeof(room)) != 0)
-		wrong("the bytes");
-	memset(room, UNTOUCHED, sizeof(room));
+	expect_bytes(outcome.written, hex);
 }
 
 /* A command of the guest: what it is, its bytes, and what is to come of it */
@@ -397,6 +405,78 @@ static void refusals(void)
 	table[VIRTIO_VIDEO_TABLE_WORDS - 1] = 0;
 }
 
+/* The sound device */
+
+/* 1 or 2 channels of 16 bits, at 44,100 or 48,000 */
+static const struct virtio_pcm_stream_config pcm_output = {
+	1, 2, 1 << VIRTIO_SND_PCM_FMT_S16,
+	1 << VIRTIO_SND_PCM_RATE_44100 | 1 << VIRTIO_SND_PCM_RATE_48000, 0
+};
+
+/* Where its PCM stream is: all that there is of it */
+static uint32_t pcm_state = VIRTIO_SND_PCM_STATE_FRESH;
+
+/* A message of the guest with so many bytes of room, and what is to come of it */
+static void control(const char *what, const void *message, size_t length, size_t lent,
+		    uint32_t refusal, uint32_t state, const char *hex)
+{
+	struct virtio_snd_outcome outcome;
+	virtio_snd_le32 status;
+
+	printf("guest, sound: %s\n", what);
+	outcome = virtio_snd_control(pcm_state, pcm_output.channels_min, pcm_output.channels_max,
+				     pcm_output.formats, pcm_output.rates, message, length, room,
+				     lent);
+	memcpy(&status, room, sizeof(status));
+	if (outcome.refusal)
+		printf("    refused with %u\n", (unsigned)outcome.refusal);
+	else
+		printf("    status 0x%x, %u bytes; state %u\n", (unsigned)status,
+		       (unsigned)outcome.written, (unsigned)outcome.state);
+	if (outcome.refusal != refusal)
+		wrong("the result");
+	if (outcome.state != state)
+		wrong("the state");
+	expect_bytes(outcome.written, hex);
+	pcm_state = outcome.state;
+}
+
+/* A message of a header alone, with all the room */
+static void plain_control(const char *what, uint32_t code, uint32_t state, const char *hex)
+{
+	struct virtio_snd_pcm_hdr m = { code, VIRTIO_SND_PCM_T_OUTPUT };
+
+	control(what, &m, sizeof(m), sizeof(room), 0, state, hex);
+}
+
+/* 13 words: five times this is what follows the status of a channel map */
+#define ZEROS_52 \
+	"00000000 00000000 00000000 00000000 00000000 00000000 00000000" \
+	"00000000 00000000 00000000 00000000 00000000 00000000"
+
+static void playing(void)
+{
+	struct virtio_snd_pcm_set_format m = {
+		{ VIRTIO_SND_R_PCM_SET_FORMAT, VIRTIO_SND_PCM_T_OUTPUT },
+		2, VIRTIO_SND_PCM_FMT_S16, VIRTIO_SND_PCM_RATE_48000, 0
+	};
+
+	plain_control("start, too early", VIRTIO_SND_R_PCM_START, 0, "01800000");
+	control("set the format", &m, sizeof(m), sizeof(room), 0, 1, "00800000");
+	plain_control("prepare", VIRTIO_SND_R_PCM_PREPARE, 2, "00800000");
+	plain_control("start", VIRTIO_SND_R_PCM_START, 3, "00800000");
+	plain_control("pause", VIRTIO_SND_R_PCM_PAUSE, 4, "00800000");
+	plain_control("unpause", VIRTIO_SND_R_PCM_UNPAUSE, 3, "00800000");
+	plain_control("query the channel map", VIRTIO_SND_R_PCM_CHMAP_INFO, 3,
+		      "02800000" ZEROS_52 ZEROS_52 ZEROS_52 ZEROS_52 ZEROS_52);
+	plain_control("stop", VIRTIO_SND_R_PCM_STOP, 5, "00800000");
+	m.rate = VIRTIO_SND_PCM_RATE_96000;
+	control("set a rate that is not offered", &m, sizeof(m), sizeof(room), 0, 5, "02800000");
+	control("send nothing", NULL, 0, VIRTIO_SND_ANSWER_ROOM, 0, 5, "01800000");
+	control("set the format, into a short room", &m, sizeof(m), VIRTIO_SND_ANSWER_ROOM - 1,
+		VIRTIO_SND_REFUSAL_SHORT_ROOM, 5, "");
+}
+
 int main(void)
 {
 	static const uint32_t empty[VIRTIO_VIDEO_TABLE_WORDS];
@@ -414,6 +494,7 @@ int main(void)
 	draining();
 	stopping();
 	refusals();
+	playing();
 
 	if (memcmp(table, empty, sizeof(table)) != 0)
 		wrong("the table at the end is not fresh");

@@ -1,9 +1,11 @@
-//! The four functions of the archive, over lent slices.
+//! The five functions of the two archives, over lent slices: four of the decoder, one of the sound
+//! device.
 //!
 //! This is the only module with `unsafe`, and it holds nothing else: a Rust slice is what the
 //! functions ask of a pointer and its count (true length, alignment, nobody else at it). They take
-//! any contents and any lengths, so each is a safe function. A [`Decoder`](crate::Decoder) is the
-//! easier way to call them; these are for a host that keeps the table in memory of its own.
+//! any contents and any lengths, so each is a safe function. A [`Decoder`](crate::Decoder) and a
+//! [`PcmOutput`](crate::sound::PcmOutput) are the easier way to call them; these are for a host that
+//! keeps table, state and room in memory of its own.
 
 #![allow(unsafe_code)]
 
@@ -14,6 +16,18 @@ pub struct Outcome {
     /// 0, or the number of a [`Refusal`](crate::Refusal); then nothing was changed.
     pub refusal: u32,
     /// Bytes of answers at the start of the room; 0 with a refusal.
+    pub written: u32,
+}
+
+/// The result of a message to the sound device.
+#[repr(C)]
+#[derive(Clone, Copy, Debug, PartialEq, Eq)]
+pub struct SoundOutcome {
+    /// 0, or 3 for a room under 264 bytes, or else 2 for a state above 5; then nothing was written.
+    pub refusal: u32,
+    /// The state for the next message; with a refusal, and after a message that failed, as given.
+    pub state: u32,
+    /// Bytes of the answer at the start of the room, 4 or 264; 0 with a refusal.
     pub written: u32,
 }
 
@@ -49,6 +63,18 @@ extern "C" {
         answers: *mut u8,
         answers_len: usize,
     ) -> Outcome;
+
+    fn virtio_snd_control(
+        state: u32,
+        channels_min: u8,
+        channels_max: u8,
+        formats: u16,
+        rates: u16,
+        message: *const u8,
+        message_len: usize,
+        answer: *mut u8,
+        answer_len: usize,
+    ) -> SoundOutcome;
 }
 
 /// Makes the table that of a device without streams; gives 0, or 1 for a short table.
@@ -110,6 +136,33 @@ pub fn drained(table: &mut [u32], stream: u32, answers: &mut [u8]) -> Outcome {
             stream,
             answers.as_mut_ptr(),
             answers.len(),
+        )
+    }
+}
+
+/// A message of the guest to the sound device. The numbers may be any.
+pub fn sound_control(
+    state: u32,
+    channels_min: u8,
+    channels_max: u8,
+    formats: u16,
+    rates: u16,
+    message: &[u8],
+    answer: &mut [u8],
+) -> SoundOutcome {
+    // SAFETY: each pointer and length are those of one slice that is lent for the call. The one
+    // that is written is exclusive, so that the two do not overlap.
+    unsafe {
+        virtio_snd_control(
+            state,
+            channels_min,
+            channels_max,
+            formats,
+            rates,
+            message.as_ptr(),
+            message.len(),
+            answer.as_mut_ptr(),
+            answer.len(),
         )
     }
 }

@@ -4,6 +4,9 @@
 //! end, and passes the answers on to the guest. The core behind it is an archive whose functions are
 //! proved against their definition; this package only lends it memory. It has no dependencies.
 //!
+//! Beside the decoder stands a small virtio sound device, output only, from an archive of its own: the
+//! module [`sound`].
+//!
 //! ```
 //! use virtio_video_decoder::{wire, Decoder, Finish, QueueType, Refusal};
 //!
@@ -44,6 +47,7 @@
 mod answer;
 pub mod ffi;
 mod refusal;
+pub mod sound;
 pub mod wire;
 
 pub use answer::{Answer, Answers, Params, Response};

@@ -1,12 +1,14 @@
-//! The C header and the Rust constants say the same.
+//! The C headers and the Rust constants say the same.
 
 use std::collections::HashMap;
-use virtio_video_decoder::{wire, Refusal};
+use std::fmt::Debug;
+use virtio_video_decoder::sound::State;
+use virtio_video_decoder::Refusal;
 
-/// The numbers that the header gives to names: lines `#define NAME number` and `NAME = number,`.
-fn header() -> HashMap<String, u64> {
-    let path = concat!(env!("CARGO_MANIFEST_DIR"), "/../../include/virtio_video_decoder.h");
-    let text = std::fs::read_to_string(path).expect(path);
+/// The numbers that a header gives to names: lines `#define NAME number` and `NAME = number,`.
+fn header(file: &str) -> HashMap<String, u64> {
+    let path = format!("{}/../../include/{file}", env!("CARGO_MANIFEST_DIR"));
+    let text = std::fs::read_to_string(&path).expect(&path);
     text.lines()
         .filter_map(|line| {
             let mut words = line.split_whitespace();
@@ -24,18 +26,58 @@ fn header() -> HashMap<String, u64> {
         .collect()
 }
 
-#[test]
-fn constants_agree() {
-    let header = header();
-    let mut checked = 0;
-    macro_rules! same {
-        ($($name:ident)*) => {$(
-            let name = concat!("VIRTIO_VIDEO_", stringify!($name));
-            assert_eq!(header.get(name), Some(&(wire::$name as u64)), "{name}");
-            checked += 1;
-        )*};
+fn video() -> HashMap<String, u64> {
+    header("virtio_video_decoder.h")
+}
+
+fn sound() -> HashMap<String, u64> {
+    header("virtio_sound_output.h")
+}
+
+/// Names of constants, each with its number in the module `wire` that is in use there.
+macro_rules! numbers {
+    ($($name:ident)*) => {
+        [$((stringify!($name), wire::$name as u64)),*]
+    };
+}
+
+/// The header has these numbers under the same names with its prefix. The source of `wire` has no
+/// constant that was left out, but for the device number.
+fn constants_agree(
+    header: &HashMap<String, u64>,
+    prefix: &str,
+    numbers: &[(&str, u64)],
+    source: &str,
+) {
+    for (name, number) in numbers {
+        let name = format!("{prefix}{name}");
+        assert_eq!(header.get(&name), Some(number), "{name}");
     }
-    same! {
+    assert_eq!(source.matches("pub const ").count(), numbers.len() + 1);
+}
+
+/// The header's names with this prefix by rising number, in small letters and without underscores.
+fn named(header: &HashMap<String, u64>, prefix: &str) -> Vec<(u64, String)> {
+    let mut names: Vec<(u64, String)> = header
+        .iter()
+        .filter_map(|(name, number)| {
+            let name = name.strip_prefix(prefix)?;
+            Some((*number, name.replace('_', "").to_lowercase()))
+        })
+        .collect();
+    names.sort();
+    names
+}
+
+/// The same of a variant.
+fn variant(number: u32, name: impl Debug) -> (u64, String) {
+    (number.into(), format!("{name:?}").to_lowercase())
+}
+
+#[test]
+fn video_constants_agree() {
+    use virtio_video_decoder::wire;
+    let numbers = numbers! {
         F_RESOURCE_GUEST_PAGES F_RESOURCE_NON_CONTIG
         CMD_QUERY_CAPABILITY CMD_STREAM_CREATE CMD_STREAM_DESTROY CMD_STREAM_DRAIN
         CMD_RESOURCE_CREATE CMD_RESOURCE_QUEUE CMD_RESOURCE_DESTROY_ALL CMD_QUEUE_CLEAR
@@ -49,26 +91,47 @@ fn constants_agree() {
         BUFFER_FLAG_ERR BUFFER_FLAG_EOS
         MAX_STREAMS MAX_RESOURCES MAX_ENTRIES MAX_PLANES MAX_RESP_LENGTH MAX_CMD_LENGTH
         TABLE_WORDS ANSWER_ROOM
-    }
-    assert_eq!(header["VIRTIO_ID_VIDEO_DECODER"], wire::ID_VIDEO_DECODER.into());
+    };
+    constants_agree(&video(), "VIRTIO_VIDEO_", &numbers, include_str!("../src/wire.rs"));
+    assert_eq!(video()["VIRTIO_ID_VIDEO_DECODER"], wire::ID_VIDEO_DECODER.into());
+}
 
-    // None of the package's constants was left out above, but for the device number.
-    let source = include_str!("../src/wire.rs");
-    assert_eq!(source.matches("pub const ").count(), checked + 1);
+#[test]
+fn sound_constants_agree() {
+    use virtio_video_decoder::sound::wire;
+    let numbers = numbers! {
+        F_PCM_OUTPUT F_PCM_INPUT
+        PCM_FMT_S8 PCM_FMT_U8 PCM_FMT_S16 PCM_FMT_U16 PCM_FMT_S32 PCM_FMT_U32
+        PCM_FMT_FLOAT PCM_FMT_FLOAT64
+        PCM_RATE_5512 PCM_RATE_8000 PCM_RATE_11025 PCM_RATE_16000 PCM_RATE_22050
+        PCM_RATE_32000 PCM_RATE_44100 PCM_RATE_48000 PCM_RATE_64000 PCM_RATE_88200
+        PCM_RATE_96000 PCM_RATE_176400 PCM_RATE_192000 PCM_RATE_384000
+        R_PCM_CHMAP_INFO R_PCM_SET_FORMAT R_PCM_PREPARE R_PCM_START R_PCM_STOP
+        R_PCM_PAUSE R_PCM_UNPAUSE
+        S_OK S_BAD_MSG S_NOT_SUPP S_IO_ERR
+        PCM_T_OUTPUT PCM_T_INPUT PCM_CH_MAX ANSWER_ROOM
+    };
+    constants_agree(&sound(), "VIRTIO_SND_", &numbers, include_str!("../src/sound/wire.rs"));
+    assert_eq!(sound()["VIRTIO_ID_SOUND"], wire::ID_SOUND.into());
 }
 
 #[test]
 fn refusals_agree() {
-    let header = header();
-    let mut numbers: Vec<(u64, String)> = header
-        .iter()
-        .filter_map(|(name, number)| {
-            let name = name.strip_prefix("VIRTIO_VIDEO_REFUSAL_")?;
-            Some((*number, name.replace('_', "").to_lowercase()))
-        })
-        .collect();
-    numbers.sort();
-    let ours = Refusal::ALL.map(|r| (r.number().into(), format!("{r:?}").to_lowercase()));
+    let numbers = named(&video(), "VIRTIO_VIDEO_REFUSAL_");
     assert_eq!(numbers[0], (0, "none".to_owned()));
-    assert_eq!(numbers[1..], ours);
+    assert_eq!(numbers[1..], Refusal::ALL.map(|r| variant(r.number(), r)));
+}
+
+#[test]
+fn sound_states_agree() {
+    let numbers = named(&sound(), "VIRTIO_SND_PCM_STATE_");
+    assert_eq!(numbers, State::ALL.map(|s| variant(s.number(), s)));
+}
+
+/// The package has no names for these, since a `PcmOutput` meets neither.
+#[test]
+fn sound_refusals_are_those_of_the_call() {
+    let numbers = named(&sound(), "VIRTIO_SND_REFUSAL_");
+    let expected = [(0, "none"), (2, "invalidstate"), (3, "shortroom")];
+    assert_eq!(numbers, expected.map(|(number, name)| (number, name.to_owned())));
 }

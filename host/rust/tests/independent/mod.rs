@@ -16,6 +16,8 @@ pub mod log_slips;
 pub mod on_words;
 pub mod random;
 pub mod slips;
+pub mod sound;
+pub mod sound_slips;
 
 /// The system under test.
 pub use archive::Archive as UnderTest;
