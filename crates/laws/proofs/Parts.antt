@@ -1,10 +1,11 @@
 -- Laws of parts and of blocks of one length. Each is stated over the offset and the length.
-use mathlib.Core.Path.{_≡_, ap, ap₂, _∙_}
-use mathlib.Core.List.{List, _++_, append-assoc}
+use mathlib.Core.Path.{_≡_, refl, ap, ap₂, _∙_}
+use mathlib.Core.List.{List, _++_, append-assoc, append-nil}
 use Prim.Native.Nat.{ℕ, _+_, _-_, _<_, _≤_}
 use native.Mathlib.Omega.{arith}
-use lib.ListN.{length, take, drop, getD, length-drop, length-replicate, getD-replicate, replicate-append-replicate}
-use lib.Seq.{take-at, drop-at, take-append-le, drop-append-le, take-append-add, drop-append-add}
+use lib.ListN.{length, take, drop, getD, set, length-set, length-drop, length-replicate, getD-replicate, replicate-append-replicate}
+use lib.Seq.{drop-length, take-at, drop-at, take-append-le, drop-append-le, take-append-add, drop-append-add}
+use borrow.Author.Fill.{fill-more}
 use Rattle.laws.specs.Parts.{part, withPart, zeros}
 
 -- Zeros.
@@ -19,6 +20,30 @@ zero-at n i h = getD-replicate {A = ℕ} n i 0 0 h
 pub zeros-append : (m n : ℕ) → zeros m ++ zeros n ≡ zeros (m + n)
 unfolding zeros
 zeros-append m n = replicate-append-replicate {A = ℕ} m n 0
+
+-- A list that is being filled with zeros: the first i are there, and the rest is as it came.
+pub record Zeroed (old s : List ℕ) (i : ℕ) : Type 0 where
+  pub upTo : i ≤ length old
+  pub front : s ≡ zeros i ++ drop i old
+  pub asLong : length s ≡ length old
+
+pub zeroed-none : (old : List ℕ) → Zeroed old old 0
+unfolding zeros
+zeroed-none old = record { upTo = omega arith; front = refl; asLong = refl }
+
+pub zeroed-more : {old s : List ℕ} {i : ℕ} → Zeroed old s i → i < length s → Zeroed old (set s i 0) (i + 1)
+unfolding zeros
+zeroed-more {old} {s} {i} z h =
+    let below : i < length old = omega (arith, z .asLong, h) in record {
+      upTo = omega (arith, below);
+      front = ap (λ (x : List ℕ). set x i 0) (z .front) ∙ fill-more i 0 old below;
+      asLong = length-set s i 0 ∙ z .asLong;
+    }
+
+pub zeroed-all : {old s : List ℕ} {i : ℕ} → Zeroed old s i → length s ≤ i → s ≡ zeros (length old)
+zeroed-all {old} {s} {i} z h =
+    let end : i ≡ length old = omega (arith, z .upTo, z .asLong, h) in
+    z .front ∙ rw (end, drop-length old) (append-nil (zeros (length old)))
 
 -- The middle of three lists, and the three with another middle.
 module _ (p m s : List ℕ) (a n : ℕ) (hp : length p ≡ a) (hm : length m ≡ n) where

@@ -14,7 +14,7 @@ use Rattle.laws.proofs.Lists.{decide, each-map, each-all, keep-append, any-appe
 use Rattle.pcm.specs.Numbers.{setFormatCode, prepareCode, startCode, stopCode, pauseCode, unpauseCode, pcmFresh, pcmSet, pcmPrepared, pcmRunning, pcmPaused, pcmStopped}
 use Rattle.pcm.specs.Lifecycle.{Transition, lifecycle, nextState}
 use Rattle.pcm.specs.Control.{codeIn, isState}
-use Rattle.pcm.specs.Lists.{PcmMessage, pcmEvent, pcmEvents, pcmFinal, takenCodes, makesReady}
+use Rattle.pcm.specs.Lists.{PcmMessage, pcmEvent, pcmEvents, pcmFinal, takenCodes, settlesReady}
 use Rattle.pcm.specs.Promises.{ReadyToPlay}
 use Rattle.pcm.proofs.Machine.{OfTransition, by-transition, next-is-state}
 use Rattle.pcm.proofs.Walks.{Moved, moves, remains, moved}
@@ -22,7 +22,7 @@ use Rattle.pcm.proofs.Walks.{Moved, moves, remains, moved}
 -- what a state says of the codes that were taken on the way to it
 record Came (s : ℕ) (codes : List ℕ) : Type 0 where
   -- not fresh: a set format was taken
-  formatted : eqb s pcmFresh ≡ false → standsIn setFormatCode (keep makesReady codes) ≡ true
+  formatted : eqb s pcmFresh ≡ false → standsIn setFormatCode (keep settlesReady codes) ≡ true
   -- prepared, running or paused
   readied : within s pcmPrepared pcmPaused ≡ true → ReadyToPlay codes
 
@@ -33,19 +33,19 @@ came-fresh = record { formatted = λ e. never e; readied = λ e. never (sym e) }
 
 -- One more code
 
--- it is kept where it makes ready, and a set format stays
-keep-more : (k : ℕ) (codes : List ℕ) → keep makesReady (codes ++ k ∷ []) ≡ keep makesReady codes ++ keep makesReady (k ∷ [])
-keep-more k codes = keep-append makesReady codes (k ∷ [])
+-- it is kept where it settles, and a set format stays
+keep-more : (k : ℕ) (codes : List ℕ) → keep settlesReady (codes ++ k ∷ []) ≡ keep settlesReady codes ++ keep settlesReady (k ∷ [])
+keep-more k codes = keep-append settlesReady codes (k ∷ [])
 
-format-stays : (k : ℕ) (codes : List ℕ) → standsIn setFormatCode (keep makesReady codes) ≡ true → standsIn setFormatCode (keep makesReady (codes ++ k ∷ [])) ≡ true
-format-stays k codes h = rw (keep-more k codes, any-append (λ x. eqb x setFormatCode) (keep makesReady codes) (keep makesReady (k ∷ [])), h)
+format-stays : (k : ℕ) (codes : List ℕ) → standsIn setFormatCode (keep settlesReady codes) ≡ true → standsIn setFormatCode (keep settlesReady (codes ++ k ∷ [])) ≡ true
+format-stays k codes h = rw (keep-more k codes, any-append (λ x. eqb x setFormatCode) (keep settlesReady codes) (keep settlesReady (k ∷ [])), h)
 
 module _ (s : ℕ) (codes : List ℕ) (c : Came s codes) where
   -- a set format
   by-format : Came pcmSet (codes ++ setFormatCode ∷ [])
   unfolding within
   by-format = record {
-    formatted = λ _. rw (keep-more setFormatCode codes, any-append (λ x. eqb x setFormatCode) (keep makesReady codes) (setFormatCode ∷ [])) (or-true (standsIn setFormatCode (keep makesReady codes)));
+    formatted = λ _. rw (keep-more setFormatCode codes, any-append (λ x. eqb x setFormatCode) (keep settlesReady codes) (setFormatCode ∷ [])) (or-true (standsIn setFormatCode (keep settlesReady codes)));
     readied = λ e. never (sym e);
   }
 
@@ -54,7 +54,7 @@ module _ (s : ℕ) (codes : List ℕ) (c : Came s codes) where
     by-prepare : Came pcmPrepared (codes ++ prepareCode ∷ [])
     by-prepare = record {
       formatted = λ _. format-stays prepareCode codes (c .formatted format);
-      readied = λ _. record { earlier = keep makesReady codes; lastPrepares = keep-more prepareCode codes; formatBefore = c .formatted format };
+      readied = λ _. record { earlier = keep settlesReady codes; lastPrepares = keep-more prepareCode codes; formatBefore = c .formatted format };
     }
 
     by-stop : Came pcmStopped (codes ++ stopCode ∷ [])
@@ -62,13 +62,13 @@ module _ (s : ℕ) (codes : List ℕ) (c : Came s codes) where
     by-stop = record { formatted = λ _. format-stays stopCode codes (c .formatted format); readied = λ e. never (sym e) }
 
     -- another code, in a state that has been prepared
-    by-other : (k n : ℕ) → makesReady k ≡ false → within s pcmPrepared pcmPaused ≡ true → Came n (codes ++ k ∷ [])
+    by-other : (k n : ℕ) → settlesReady k ≡ false → within s pcmPrepared pcmPaused ≡ true → Came n (codes ++ k ∷ [])
     by-other k n other playing =
         let ready = c .readied playing in record {
           formatted = λ _. format-stays k codes (c .formatted format);
           readied = λ _. record {
             earlier = ready .earlier;
-            lastPrepares = keep-more k codes ∙ rw other (append-nil (keep makesReady codes)) ∙ ready .lastPrepares;
+            lastPrepares = keep-more k codes ∙ rw other (append-nil (keep settlesReady codes)) ∙ ready .lastPrepares;
             formatBefore = ready .formatBefore;
           };
         }

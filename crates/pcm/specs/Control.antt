@@ -1,6 +1,6 @@
 -- A control message of the guest to the output stream: document 02, request 10, with the structs of document 001.
 use mathlib.Core.Bool.{Bool, cond, not, _&&_}
-use mathlib.Core.Option.{none, Option·getD}
+use mathlib.Core.Option.{Option·getD}
 use mathlib.Core.List.{List, [], _++_}
 use Prim.Native.Nat.{ℕ, _/_, _%_, _^_}
 use lib.ListN.{length, drop}
@@ -10,7 +10,7 @@ use Rattle.laws.specs.InOrder.{accept, _⇒_then_, byTests}
 use Rattle.laws.specs.Lists.{isNone}
 use Rattle.laws.specs.Parts.{zeros}
 use Rattle.field.specs.Field.{field, littleEndian}
-use Rattle.pcm.specs.Numbers.{chmapInfoCode, setFormatCode, unpauseCode, statusOk, PcmError, badMsg, notSupp, errorStatus, inputType, lastFormat, lastRate, pcmHeader, setFormatBytes, positionsBytes, controlRoom, pcmStopped}
+use Rattle.pcm.specs.Numbers.{chmapInfoCode, setFormatCode, unpauseCode, statusOk, PcmError, badMsg, notSupp, errorStatus, inputType, lastFormat, lastRate, pcmHeader, setFormatBytes, statusBytes, positionsBytes, controlRoom, pcmStopped}
 use Rattle.pcm.specs.Lifecycle.{nextState}
 
 -- Fields
@@ -68,7 +68,7 @@ abbrev pub stateAfter : ℕ → PcmReply → ℕ
 stateAfter s (goesTo n) = n
 stateAfter s (rejects e) = s
 
--- a message in state s
+-- a message in state s: request 10's tests, in its order
 unfoldable pub onControl : PcmConfig → ℕ → List ℕ → PcmReply
 onControl config s m =
     let k = codeIn m in
@@ -94,7 +94,7 @@ asksMap m = leb pcmHeader (length m) && eqb (codeIn m) chmapInfoCode
 
 -- the status; behind it, where the channel map was asked for, no positions
 unfoldable pub controlAnswer : List ℕ → ℕ → List ℕ
-controlAnswer m status = littleEndian 4 status ++ cond (asksMap m) (zeros positionsBytes) []
+controlAnswer m status = littleEndian statusBytes status ++ cond (asksMap m) (zeros positionsBytes) []
 
 -- The whole effect
 

@@ -71,6 +71,6 @@ abbrev pub takenCodes : List PcmEvent → List ℕ
 takenCodes [] = []
 takenCodes (e ∷ es) = cond (succeeds e) (codeIn (e .message .bytes) ∷ takenCodes es) (takenCodes es)
 
--- set format, prepare or stop
-abbrev pub makesReady : ℕ → Bool
-makesReady k = eqb k setFormatCode || (eqb k prepareCode || eqb k stopCode)
+-- the codes after which it is settled whether the stream is ready to play: set format, prepare, stop
+abbrev pub settlesReady : ℕ → Bool
+settlesReady k = eqb k setFormatCode || (eqb k prepareCode || eqb k stopCode)

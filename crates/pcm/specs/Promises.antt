@@ -8,12 +8,12 @@ use Rattle.laws.specs.Lists.{keep, standsIn}
 use Rattle.pcm.specs.Numbers.{setFormatCode, prepareCode, pcmFresh, pcmRunning, pcmPaused, pcmStopped}
 use Rattle.pcm.specs.Control.{isState}
 use Rattle.pcm.specs.Cases.{lifeCodes, life}
-use Rattle.pcm.specs.Lists.{PcmMessage, pcmEvents, pcmFinal, isWalk, takenCodes, makesReady}
+use Rattle.pcm.specs.Lists.{PcmMessage, pcmEvents, pcmFinal, isWalk, takenCodes, settlesReady}
 
 -- of the codes of set format, prepare and stop the last is a prepare, and a set format stands before it
 pub record ReadyToPlay (codes : List ℕ) : Type 0 where
   pub earlier : List ℕ
-  pub lastPrepares : keep makesReady codes ≡ earlier ++ prepareCode ∷ []
+  pub lastPrepares : keep settlesReady codes ≡ earlier ++ prepareCode ∷ []
   pub formatBefore : standsIn setFormatCode earlier ≡ true
 
 pub record PcmPromises : Type 0 where

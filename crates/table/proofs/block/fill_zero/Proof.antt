@@ -1,24 +1,19 @@
--- `table::fill_zero` meets its contract. The invariant: the words below `i` are zero, the rest as they came.
-use mathlib.Core.Path.{_≡_, refl, ap, _∙_}
-use mathlib.Core.List.{List, _++_, append-nil}
-use Prim.Native.Nat.{ℕ, _≤_, _-_}
-use native.Mathlib.Omega.{arith}
+-- `table::fill_zero` meets its contract: one more is zero at each turn.
+use Prim.Native.Nat.{_-_}
 use borrow.Author.Needs.{needs}
-use lib.ListN.{length, drop, replicate, set, length-set}
-use lib.Seq.{drop-length}
-use borrow.Author.Fill.{fill-more}
-use Rattle.laws.specs.Parts.{zeros}
+use lib.ListN.{length}
+use Rattle.laws.proofs.Parts.{Zeroed, zeroed-none, zeroed-more, zeroed-all}
 use Rattle.table.proofs.block.fill_zero.Statement.{statement}
 use Rattle.table.proofs.block.fill_zero.Tie as tie
 
 abbrev Inv-loop : tie.InvT-loop
-Inv-loop s₀ i₀ s i = (i ≤ length s₀) × (s ≡ replicate i 0 ++ drop i s₀) × (length s ≡ length s₀)
+Inv-loop s₀ i₀ s i = Zeroed s₀ s i
 
 abbrev μ-loop : tie.MeasureT-loop
 μ-loop s₀ i₀ s i = length s₀ - i
 
 loop-holds : tie.Need-loop-holds Inv-loop μ-loop
-loop-holds c = (search needs, refl, refl)
+loop-holds c = zeroed-none _
 
 mul-s : tie.Need-mul-s Inv-loop μ-loop
 mul-s c = search needs
@@ -33,24 +28,13 @@ loop-less : tie.Need-loop-less Inv-loop μ-loop
 loop-less c = search needs
 
 loop-again : tie.Need-loop-again Inv-loop μ-loop
-loop-again c =
-    let l = c .before .loop in
-    let old = c .before .before .args .s .now in (
-      search needs,
-      ap (λ (x : List ℕ). set x (l .i) 0) (l .inv .1) ∙ fill-more (l .i) 0 old (search needs),
-      length-set (l .s) (l .i) 0 ∙ l .inv .2,
-    )
+loop-again c = zeroed-more (c .before .loop .inv) (c .loop-test .taken)
 
 same-length : tie.Need-same-length Inv-loop μ-loop
-same-length c = c .before .loop .inv .2
+same-length c = c .before .loop .inv .asLong
 
 returns : tie.Need-returns Inv-loop μ-loop
-unfolding zeros
-returns c =
-    let l = c .before .loop in
-    let old = c .before .before .args .s .now in
-    let end : l .i ≡ length old = omega (arith, c .loop-test .left) in
-    (rw end at (l .inv .1)) ∙ rw (drop-length old) (append-nil (replicate (length old) 0))
+returns c = zeroed-all (c .before .loop .inv) (c .loop-test .left)
 
 pub fill-zero-spec : {M : Type 1} → statement M
 fill-zero-spec =
