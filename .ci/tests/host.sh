@@ -10,7 +10,7 @@ test=host
 build=$PWD/target/host/c
 mkdir -p "$build" || exit 2
 
-# No more and no fewer names than those of the header, which are given behind the archive's.
+# The archive named first exports exactly the names that follow.
 exports() {
     local archive
     archive=$(archive_of "$1")

@@ -475,6 +475,9 @@ static void playing(void)
 	control("send nothing", NULL, 0, VIRTIO_SND_ANSWER_ROOM, 0, 5, "01800000");
 	control("set the format, into a short room", &m, sizeof(m), VIRTIO_SND_ANSWER_ROOM - 1,
 		VIRTIO_SND_REFUSAL_SHORT_ROOM, 5, "");
+	pcm_state = VIRTIO_SND_PCM_STATE_STOPPED + 1;
+	control("set the format, in no state", &m, sizeof(m), sizeof(room),
+		VIRTIO_SND_REFUSAL_INVALID_STATE, 6, "");
 }
 
 int main(void)

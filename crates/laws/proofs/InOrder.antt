@@ -14,10 +14,10 @@ module _ {E A : Type 0} where
   Passed P (hit ⇒ e then ts) = hit ≡ false → Passed P ts
 
   -- a property of what the tests give: of each error, and where none hits
-  pub walk : (P : A → Type 0) (fail : E → A) (ts : Tests E A) → ((e : E) → P (fail e)) → Passed P ts → P (byTests fail ts)
+  pub tests-cases : (P : A → Type 0) (fail : E → A) (ts : Tests E A) → ((e : E) → P (fail e)) → Passed P ts → P (byTests fail ts)
   unfolding byTests
-  walk P fail (accept v) fails h = h
-  walk P fail (hit ⇒ e then ts) fails h = cond-elim P hit (λ _. fails e) (λ z. walk P fail ts fails (h z))
+  tests-cases P fail (accept v) fails h = h
+  tests-cases P fail (hit ⇒ e then ts) fails h = cond-elim P hit (λ _. fails e) (λ z. tests-cases P fail ts fails (h z))
 
 module _ {E A : Type 0} (fail : E → A) where
   -- no test, a test that hits, and one that does not

@@ -1,10 +1,10 @@
 -- Each step of a stream keeps to the ledger: what is pending by its record after the step, the tickets of its answers, and that a step which is
 -- not accepted leaves the record alone.
-use Prim.Native.Nat.{ℕ}
 use mathlib.Core.Path.{_≡_, refl, sym, ap, _∙_, subst}
 use mathlib.Core.Bool.{Bool, true, false, cond, not, _&&_, _||_}
 use mathlib.Core.Option.{Option, none, some}
 use mathlib.Core.List.{List, [], _∷_, _++_, map, append-nil, append-assoc, map-append}
+use Prim.Native.Nat.{ℕ}
 use lib.ListN.{length}
 use lib.Dec.{eqb, ltb}
 use borrow.Author.Tests.{not-false}
@@ -12,7 +12,7 @@ use Rattle.laws.specs.Lists.{keep, anyOf, isEmpty, toList}
 use Rattle.laws.specs.Ascending.{insertBy}
 use Rattle.laws.proofs.Tests.{never}
 use Rattle.laws.proofs.Lists.{cond-elim, eqb-same, eqb-sym, keep-ascending, keep-const, none-is, any-append, empty-is, Each, each-map}
-use Rattle.laws.proofs.InOrder.{walk}
+use Rattle.laws.proofs.InOrder.{tests-cases}
 use Rattle.field.specs.Field.{field}
 use Rattle.model.specs.Device.{QueueType, input, output, queued, dequeued, Queue, Stream, newStream, queueOf, withQueue, withDrain, withSlots, Buffer, queuedIn, byResource, buffers, bufferOf, present, addResource, setState, freeAll}
 use Rattle.model.specs.Frames.{QueueCommand, createResource, queueResource, destroyAll, clear, getParameters, setParameters, LiveCommand, destroy, drain, control, toQueue, create, live, CommandRule, commands, ruleOf, wrongLength, queueNumber, queueNamed, codedFormat, resourceId, timestampSent}
@@ -332,7 +332,7 @@ module _ (n t : ℕ) (f : List ℕ) (b : Stream) (s : Sane (some b)) where
   queued-live : FitsLive 0x0105 (onLive (toQueue queueResource) c b)
   unfolding onQueue
   queued-live =
-      in-queue 0x0105 queueResource (λ q e. walk (FitsLive 0x0105) (fail c) _ (bad 0x0105) (λ h₁ h₂ h₃ h₄ h₅.
+      in-queue 0x0105 queueResource (λ q e. tests-cases (FitsLive 0x0105) (fail c) _ (bad 0x0105) (λ h₁ h₂ h₃ h₄ h₅.
       subst (λ (x : ℕ). Fits (λ w. false) (some (toBuffer x (resourceId f) (timestampSent f))) n t (me t true) (some b)
       (reply [] (some (withQueue q (withSlots (setState (resourceId f) (queued t (timestampSent f)) (queueOf q b .slots)) (queueOf q b)) b))))
       (sym (named-number (field 4 f 8) q e))
@@ -354,14 +354,14 @@ module _ (n t : ℕ) (f : List ℕ) (b : Stream) (s : Sane (some b)) where
   resource-live : FitsLive 0x0104 (onLive (toQueue createResource) c b)
   unfolding onCreateResource
   resource-live =
-      in-queue 0x0104 createResource (λ q e. walk (FitsLive 0x0104) (fail c) _ (bad 0x0104) (λ h₁ h₂ h₃ h₄ h₅ h₆ h₇.
+      in-queue 0x0104 createResource (λ q e. tests-cases (FitsLive 0x0104) (fail c) _ (bad 0x0104) (λ h₁ h₂ h₃ h₄ h₅ h₆ h₇.
       let x = queueOf q b .slots in
       quiet q (withSlots (addResource (resourceId f) x) (queueOf q b)) (queued-add (resourceId f) x)))
 
   freed-live : FitsLive 0x0106 (onLive (toQueue destroyAll) c b)
   unfolding onDestroyAll
   freed-live =
-      in-queue 0x0106 destroyAll (λ q e. walk (FitsLive 0x0106) (fail c) _ (bad 0x0106) (λ h.
+      in-queue 0x0106 destroyAll (λ q e. tests-cases (FitsLive 0x0106) (fail c) _ (bad 0x0106) (λ h.
       let x = queueOf q b .slots in
       let none-queued : not (isEmpty (queuedIn x)) ≡ false = h in
       quiet q (withSlots (freeAll x) (queueOf q b)) (queued-free x ∙ sym (empty-is _ (not-false _ none-queued)))))
@@ -372,11 +372,11 @@ module _ (n t : ℕ) (f : List ℕ) (b : Stream) (s : Sane (some b)) where
 
   set-live : FitsLive 0x0109 (onLive (toQueue setParameters) c b)
   unfolding onSet
-  set-live = in-queue 0x0109 setParameters (λ q e. walk (FitsLive 0x0109) (fail c) _ (bad 0x0109) (λ h₁ h₂ h₃ h₄. quiet q _ refl))
+  set-live = in-queue 0x0109 setParameters (λ q e. tests-cases (FitsLive 0x0109) (fail c) _ (bad 0x0109) (λ h₁ h₂ h₃ h₄. quiet q _ refl))
 
   drain-live : FitsLive 0x0103 (onDrain c b)
   unfolding onDrain
-  drain-live = walk (FitsLive 0x0103) (fail c) _ (bad 0x0103) (λ h. drain-fits n t b (none-is _ (not-false _ h)))
+  drain-live = tests-cases (FitsLive 0x0103) (fail c) _ (bad 0x0103) (λ h. drain-fits n t b (none-is _ (not-false _ h)))
 
 -- nothing is pending of a new stream
 new-pends : (format : ℕ) → holding (some (newStream format)) ≡ holding none
@@ -390,7 +390,7 @@ new-pends format = λ i. record { queued = λ q. nothing q i; drains = [] }
 create-fits : (around : Surroundings) (n t : ℕ) (f : List ℕ) → FitsType 0x0101 n t f none (onCreate around (request n t none f))
 unfolding onCreate
 create-fits around n t f =
-    walk (FitsType 0x0101 n t f none) (fail (request n t none f)) _ (λ e. fail-type 0x0101 n t f none e)
+    tests-cases (FitsType 0x0101 n t f none) (fail (request n t none f)) _ (λ e. fail-type 0x0101 n t f none e)
     (λ h₁ h₂ h₃ h₄ h₅. quiet-fits n t (own (request n t none f) success) none (some (newStream (codedFormat f))) refl refl (new-pends (codedFormat f)))
 
 module _ (around : Surroundings) (n t : ℕ) (f : List ℕ) where

@@ -1,9 +1,9 @@
 -- A stream's answers and its record do not depend on the other streams.
-use Prim.Native.Nat.{ℕ}
 use mathlib.Core.Path.{_≡_, refl, sym, ap, ap₂, _∙_, subst}
 use mathlib.Core.Bool.{Bool, true, false, not, _&&_}
 use mathlib.Core.Option.{Option, none, some}
 use mathlib.Core.List.{List, [], _∷_}
+use Prim.Native.Nat.{ℕ}
 use lib.ListN.{length, replicate}
 use lib.Dec.{eqb, ltb}
 use borrow.Author.Tests.{eqb-true}
@@ -12,7 +12,7 @@ use Rattle.laws.specs.Lists.{anyOf}
 use Rattle.laws.specs.InOrder.{byTests}
 use Rattle.laws.proofs.Tests.{never}
 use Rattle.laws.proofs.Lists.{decide, cond-elim, eqb-same, any-head, any-tail, none-is, each-map}
-use Rattle.laws.proofs.InOrder.{walk}
+use Rattle.laws.proofs.InOrder.{tests-cases}
 use Rattle.field.specs.Field.{field, littleEndian}
 use Rattle.tag.specs.Tag.{goodTag, tagIn}
 use Rattle.model.specs.Numbers.{tableWords, firstCoded, lastCoded}
@@ -44,7 +44,7 @@ request-next around n t f none = refl
 request-next around n t f (some l) = cond-elim StaysNone (wrongLength (l .lengthRule) (length f)) (λ _. refl) (λ _. of (l .command))
   where
     of : (x : Command) → StaysNone (onStream (withFullness around) (record { stream = n; ticket = t; frame = f; self = none }) x none)
-    of create = walk StaysNone (fail (record { stream = n; ticket = t; frame = f; self = none })) _ (λ e. refl) (λ h₁ h₂ h₃ h₄ h₅. never h₅)
+    of create = tests-cases StaysNone (fail (record { stream = n; ticket = t; frame = f; self = none })) _ (λ e. refl) (λ h₁ h₂ h₃ h₄ h₅. never h₅)
     of (live k) = refl
 
 serve-next : (around : Surroundings) (n : ℕ) (a : Act) → StaysNone (serve (withFullness around) n none a)

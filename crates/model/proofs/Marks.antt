@@ -1,13 +1,13 @@
 -- No reached device carries a clear-in-progress mark.
-use Prim.Native.Nat.{ℕ}
 use mathlib.Core.Path.{_≡_, refl, sym, ap, subst}
 use mathlib.Core.Bool.{true, false, not}
 use mathlib.Core.Option.{Option, none, some}
 use mathlib.Core.List.{List, [], _∷_}
+use Prim.Native.Nat.{ℕ}
 use borrow.Author.Tests.{not-true}
 use Rattle.laws.specs.Lists.{allOf}
 use Rattle.laws.proofs.Tests.{both, and-left, and-right}
-use Rattle.laws.proofs.InOrder.{walk}
+use Rattle.laws.proofs.InOrder.{tests-cases}
 use Rattle.model.specs.Device.{QueueType, input, output, Queue, Stream, Device, newStream, fresh, queueOf, withQueue, withDrain, recordOf, place}
 use Rattle.model.specs.Frames.{QueueCommand, createResource, queueResource, destroyAll, clear, getParameters, setParameters, LiveCommand}
 use Rattle.model.specs.Replies.{Reply, Request, fail}
@@ -52,16 +52,16 @@ module _ (c : Request) (b : Stream) (self : c .self ≡ some b) (h : Unmarked (s
 
   queue-leaves : (k : QueueCommand) (q : QueueType) → LeavesNone (onQueueOf k c b q)
   unfolding onCreateResource onQueue onDestroyAll onClear onGet onSet
-  queue-leaves createResource q = walk LeavesNone (fail c) _ (λ e. same-marks) (λ h₁ h₂ h₃ h₄ h₅ h₆ h₇. with-queue q _ b (h q) h)
-  queue-leaves queueResource q = walk LeavesNone (fail c) _ (λ e. same-marks) (λ h₁ h₂ h₃ h₄ h₅. with-queue q _ b (h q) h)
-  queue-leaves destroyAll q = walk LeavesNone (fail c) _ (λ e. same-marks) (λ h₁. with-queue q _ b (h q) h)
+  queue-leaves createResource q = tests-cases LeavesNone (fail c) _ (λ e. same-marks) (λ h₁ h₂ h₃ h₄ h₅ h₆ h₇. with-queue q _ b (h q) h)
+  queue-leaves queueResource q = tests-cases LeavesNone (fail c) _ (λ e. same-marks) (λ h₁ h₂ h₃ h₄ h₅. with-queue q _ b (h q) h)
+  queue-leaves destroyAll q = tests-cases LeavesNone (fail c) _ (λ e. same-marks) (λ h₁. with-queue q _ b (h q) h)
   queue-leaves clear q = with-queue q (cleared (queueOf q b)) (withDrain (drainLeft q b) b) refl (with-drain (drainLeft q b) b h)
   queue-leaves getParameters q = same-marks
-  queue-leaves setParameters q = walk LeavesNone (fail c) _ (λ e. same-marks) (λ h₁ h₂ h₃ h₄. with-queue q _ b (h q) h)
+  queue-leaves setParameters q = tests-cases LeavesNone (fail c) _ (λ e. same-marks) (λ h₁ h₂ h₃ h₄. with-queue q _ b (h q) h)
 
   live-leaves : (k : LiveCommand) → LeavesNone (onLive k c b)
   unfolding onDestroy onDrain
-  live-leaves = live-cases LeavesNone c b (λ e. same-marks) tt (walk LeavesNone (fail c) _ (λ e. same-marks) (λ _. with-drain (some (c .ticket)) b h)) queue-leaves
+  live-leaves = live-cases LeavesNone c b (λ e. same-marks) tt (tests-cases LeavesNone (fail c) _ (λ e. same-marks) (λ _. with-drain (some (c .ticket)) b h)) queue-leaves
 
 new-unmarked : (v : ℕ) → Unmarked (some (newStream v))
 new-unmarked v input = refl
@@ -71,7 +71,7 @@ command-leaves : (around : Surroundings) (c : Request) → Unmarked (c .self) �
 unfolding onCreate
 command-leaves around c h =
     command-cases LeavesNone around c (λ e. h)
-    (λ e. walk LeavesNone (fail c) _ (λ x. h) (λ h₁ h₂ h₃ h₄ h₅. new-unmarked _))
+    (λ e. tests-cases LeavesNone (fail c) _ (λ x. h) (λ h₁ h₂ h₃ h₄ h₅. new-unmarked _))
     (λ k b e. live-leaves c b e (subst Unmarked e h) k)
 
 serve-leaves : (around : Surroundings) (n : ℕ) (self : Option Stream) (a : Act) → Unmarked self → LeavesNone (serve around n self a)

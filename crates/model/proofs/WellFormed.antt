@@ -1,9 +1,9 @@
 -- A step leaves a well-formed device well formed.
-use Prim.Native.Nat.{ℕ, suc, _^_}
 use mathlib.Core.Path.{_≡_, refl, sym, ap, _∙_, subst}
 use mathlib.Core.Bool.{true, false, not, _&&_}
 use mathlib.Core.Option.{Option, none, some}
 use mathlib.Core.List.{List, [], _∷_}
+use Prim.Native.Nat.{ℕ, suc, _^_}
 use lib.ListN.{length}
 use lib.Dec.{eqb, ltb}
 use borrow.Author.Tests.{lt-ltb, eqb-true, eq-eqb, not-true, not-false}
@@ -11,7 +11,7 @@ use Rattle.laws.specs.Tests.{within}
 use Rattle.laws.specs.Lists.{allOf, isNone}
 use Rattle.laws.proofs.Tests.{never, both, and-left, and-right}
 use Rattle.laws.proofs.Lists.{decide, cond-elim, eqb-sym}
-use Rattle.laws.proofs.InOrder.{walk}
+use Rattle.laws.proofs.InOrder.{tests-cases}
 use Rattle.field.specs.Field.{field}
 use Rattle.model.specs.Numbers.{streamPlaces, queueSlots, firstCoded, lastCoded, headerBytes}
 use Rattle.model.specs.Device.{QueueType, input, output, State, created, queued, dequeued, Slot, free, resource, Queue, Stream, Place, vacant, occupied, Device, newQueue, newStream, fresh, queueOf, withQueue, withDrain, withSlots, present, addResource, setState, stopped, stopAll, freeAll, recordOf, place, replace, install, putRecord}
@@ -217,28 +217,28 @@ module _ (c : Request) (b : Stream) (self : c .self ≡ some b) (g : GoodStream 
   changed-good : (k : QueueCommand) (q : QueueType) → GoodNext (onQueueOf k c b q)
   unfolding onCreateResource onQueue onDestroyAll onClear onGet onSet
   changed-good createResource q =
-      walk GoodNext (fail c) _ (λ e. same-queue) (λ h₁ h₂ h₃ h₄ h₅ h₆ h₇.
+      tests-cases GoodNext (fail c) _ (λ e. same-queue) (λ h₁ h₂ h₃ h₄ h₅ h₆ h₇.
       good-slots q _ b g (slots-add (resourceId (c .frame)) (queueOf q b .slots) (word-u32 (c .frame) 12 m) h₆ ((good-queue-of q b g) .slots)))
   changed-good queueResource q =
-      walk GoodNext (fail c) _ (λ e. same-queue) (λ h₁ h₂ h₃ h₄ h₅.
+      tests-cases GoodNext (fail c) _ (λ e. same-queue) (λ h₁ h₂ h₃ h₄ h₅.
       good-slots q _ b g (slots-set (resourceId (c .frame)) (queued (c .ticket) (timestampSent (c .frame))) (queueOf q b .slots)
       (both t (field-u64 (c .frame) 16 m)) ((good-queue-of q b g) .slots)))
-  changed-good destroyAll q = walk GoodNext (fail c) _ (λ e. same-queue) (λ h. good-slots q _ b g (slots-free (queueOf q b .slots) ((good-queue-of q b g) .slots)))
+  changed-good destroyAll q = tests-cases GoodNext (fail c) _ (λ e. same-queue) (λ h. good-slots q _ b g (slots-free (queueOf q b .slots) ((good-queue-of q b g) .slots)))
   changed-good clear q = good-clear q b g
   changed-good getParameters q = same-queue
   changed-good setParameters q =
-      walk GoodNext (fail c) _ (λ e. same-queue) (λ h₁ h₂ h₃ h₄.
+      tests-cases GoodNext (fail c) _ (λ e. same-queue) (λ h₁ h₂ h₃ h₄.
       good-with q _ b g (record { slots = (good-queue-of q b g) .slots; width = h₂; height = h₃; rate = word-u32 (c .frame) 48 m }))
 
   live-good : (k : LiveCommand) → GoodNext (onLive k c b)
   unfolding onDestroy onDrain
-  live-good = live-cases GoodNext c b (λ e. same-queue) tt (walk GoodNext (fail c) _ (λ e. same-queue) (λ h. good-drain (some (c .ticket)) b g t)) changed-good
+  live-good = live-cases GoodNext c b (λ e. same-queue) tt (tests-cases GoodNext (fail c) _ (λ e. same-queue) (λ h. good-drain (some (c .ticket)) b g t)) changed-good
 
 command-good : (around : Surroundings) (c : Request) → GoodSelf (c .self) → u32 (c .ticket) ≡ true → allOf u8 (c .frame) ≡ true → GoodNext (onCommand around c)
 unfolding onCreate
 command-good around c g t m =
     command-cases GoodNext around c (λ e. g)
-    (λ e. walk GoodNext (fail c) _ (λ x. g) (λ h₁ h₂ h₃ h₄ h₅. good-new (codedFormat (c .frame)) (not-false _ h₃)))
+    (λ e. tests-cases GoodNext (fail c) _ (λ x. g) (λ h₁ h₂ h₃ h₄ h₅. good-new (codedFormat (c .frame)) (not-false _ h₃)))
     (λ k b e. live-good c b e (subst GoodSelf e g) t m k)
 
 pub serve-good : (around : Surroundings) (n : ℕ) (self : Option Stream) (a : Act) → GoodSelf self → goodAct a ≡ true → GoodSelf (serve around n self a .next)

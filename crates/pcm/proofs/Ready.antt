@@ -11,7 +11,7 @@ use Rattle.laws.specs.Tests.{within}
 use Rattle.laws.specs.Lists.{keep, standsIn}
 use Rattle.laws.proofs.Tests.{never, and-left, and-right, within-true, within-bounds}
 use Rattle.laws.proofs.Lists.{decide, each-map, each-all, keep-append, any-append}
-use Rattle.pcm.specs.Numbers.{setFormatCode, prepareCode, startCode, stopCode, pauseCode, unpauseCode, pcmFresh, pcmSet, pcmPrepared, pcmRunning, pcmPaused, pcmStopped}
+use Rattle.pcm.specs.Numbers.{setFormatCode, prepareCode, stopCode, pcmFresh, pcmSet, pcmPrepared, pcmRunning, pcmPaused, pcmStopped}
 use Rattle.pcm.specs.Lifecycle.{Transition, lifecycle, nextState}
 use Rattle.pcm.specs.Control.{codeIn, isState}
 use Rattle.pcm.specs.Lists.{PcmMessage, pcmEvent, pcmEvents, pcmFinal, takenCodes, settlesReady}

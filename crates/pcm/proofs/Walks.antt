@@ -9,7 +9,7 @@ use lib.ListN.{length, drop}
 use lib.Seq.{take-append-seam}
 use Rattle.laws.specs.Lists.{isNone}
 use Rattle.laws.proofs.Tests.{both, never}
-use Rattle.laws.proofs.InOrder.{walk}
+use Rattle.laws.proofs.InOrder.{tests-cases}
 use Rattle.laws.proofs.Lists.{decide, eqb-same}
 use Rattle.field.specs.Field.{field}
 use Rattle.field.proofs.Laws.{field-back}
@@ -29,7 +29,7 @@ Leads s k (rejects e) = Unit {0}
 leads : (config : PcmConfig) (s : ℕ) (m : List ℕ) → Leads s (codeIn m) (onControl config s m)
 unfolding onControl
 leads config s m =
-    walk (Leads s (codeIn m)) rejects _ (λ e. tt)
+    tests-cases (Leads s (codeIn m)) rejects _ (λ e. tt)
     (λ h₁ h₂ h₃ h₄ h₅ h₆ h₇ h₈ h₉ h₁₀. led (nextState s (codeIn m)) refl h₇)
   where
     led : (o : Option ℕ) → nextState s (codeIn m) ≡ o → isNone (nextState s (codeIn m)) ≡ false → Leads s (codeIn m) (goesTo (Option·getD (nextState s (codeIn m)) s))
@@ -112,7 +112,7 @@ unfolding rightState
 right-state s e (moves h is) = rw h (next-is-transition s (codeIn (e .message .bytes)) (e .state) is)
 right-state s e (remains h is) = rw (h, is) (eqb-same s)
 
-pub still-state : (s : ℕ) (e : PcmEvent) → isState s ≡ true → Moved s e → isState (e .state) ≡ true
+still-state : (s : ℕ) (e : PcmEvent) → isState s ≡ true → Moved s e → isState (e .state) ≡ true
 still-state s e known (moves h is) = next-is-state s (codeIn (e .message .bytes)) (e .state) is
 still-state s e known (remains h is) = rw is known
 

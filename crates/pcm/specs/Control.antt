@@ -10,7 +10,7 @@ use Rattle.laws.specs.InOrder.{accept, _⇒_then_, byTests}
 use Rattle.laws.specs.Lists.{isNone}
 use Rattle.laws.specs.Parts.{zeros}
 use Rattle.field.specs.Field.{field, littleEndian}
-use Rattle.pcm.specs.Numbers.{chmapInfoCode, setFormatCode, unpauseCode, statusOk, PcmError, badMsg, notSupp, errorStatus, inputType, lastFormat, lastRate, pcmHeader, setFormatBytes, statusBytes, positionsBytes, controlRoom, pcmStopped}
+use Rattle.pcm.specs.Numbers.{chmapInfoCode, setFormatCode, unpauseCode, statusOk, PcmError, badMsg, notSupp, errorStatus, inputType, lastFormat, lastRate, pcmHeader, setFormatBytes, statusBytes, chmapBytes, controlRoom, pcmStopped}
 use Rattle.pcm.specs.Lifecycle.{nextState}
 
 -- Fields
@@ -94,7 +94,7 @@ asksMap m = leb pcmHeader (length m) && eqb (codeIn m) chmapInfoCode
 
 -- the status; behind it, where the channel map was asked for, no positions
 unfoldable pub controlAnswer : List ℕ → ℕ → List ℕ
-controlAnswer m status = littleEndian statusBytes status ++ cond (asksMap m) (zeros positionsBytes) []
+controlAnswer m status = littleEndian statusBytes status ++ cond (asksMap m) (zeros chmapBytes) []
 
 -- The whole effect
 

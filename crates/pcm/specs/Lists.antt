@@ -28,7 +28,7 @@ pcmEvent s m =
     let e = pcmControl (m .config) s (m .bytes) (m .room) in
     record { message = m; refusal = e .refusal; state = e .state; answer = take (e .written) (e .room) }
 
--- a list of messages, each in the state that the last one left
+-- a list of messages, each in the state that the one before left
 abbrev pub pcmEvents : ℕ → List PcmMessage → List PcmEvent
 pcmEvents s [] = []
 pcmEvents s (m ∷ ms) = pcmEvent s m ∷ pcmEvents (pcmEvent s m .state) ms

@@ -61,11 +61,11 @@ setFormatBytes = 16
 abbrev pub statusBytes : ℕ
 statusBytes = 4
 
-abbrev pub positionsBytes : ℕ
-positionsBytes = 260
+abbrev pub chmapBytes : ℕ
+chmapBytes = 260
 
 abbrev pub controlRoom : ℕ
-controlRoom = statusBytes + positionsBytes
+controlRoom = statusBytes + chmapBytes
 
 -- States of a PCM stream: document 02, request 10, in its order
 

@@ -6,7 +6,7 @@ use Prim.Native.Nat.{ℕ}
 use Rattle.pcm.specs.Numbers.{statusOk, PcmError, errorStatus}
 use Rattle.pcm.specs.Control.{PcmConfig, PcmReply, statusOf, stateAfter, PcmEffect}
 use Rattle.sound.specs.declared.ControlOutcome.{ControlOutcome}
-use Rattle.sound.specs.declared.Judged.{Judged}
+use Rattle.sound.specs.declared.ControlReply.{ControlReply}
 
 -- the configured numbers, in the order of the draft's struct
 abbrev pub configOf : ℕ → ℕ → ℕ → ℕ → PcmConfig
@@ -17,7 +17,7 @@ abbrev pub asPcmEffect : ControlOutcome → List ℕ → PcmEffect
 asPcmEffect r room = record { refusal = r .refusal; state = r .state; written = r .written; room = room }
 
 -- status and state are those of a reply in state s
-pub record Judges (r : Judged) (s : ℕ) (v : PcmReply) : Type 0 where
+pub record IsReply (r : ControlReply) (s : ℕ) (v : PcmReply) : Type 0 where
   pub isStatus : r .status ≡ statusOf v
   pub isNext : r .state ≡ stateAfter s v
 
@@ -26,7 +26,11 @@ abbrev pub checkStatus : Option PcmError → ℕ
 checkStatus none = statusOk
 checkStatus (some e) = errorStatus e
 
--- the state that a request leads to; 6 where it is out of order
+-- no state: where a request is out of order
+abbrev pub outOfOrder : ℕ
+outOfOrder = 6
+
+-- the state that a request leads to
 abbrev pub orderNumber : Option ℕ → ℕ
-orderNumber none = 6
+orderNumber none = outOfOrder
 orderNumber (some n) = n

@@ -10,7 +10,7 @@ ghost use Rattle.laws.specs.Stores.{Wrote};
 ghost use Rattle.laws.specs.Parts.{zeros};
 ghost use Rattle.pcm.specs.Numbers.{pcmStopped, controlRoom};
 ghost use Rattle.pcm.specs.Control.{onControl, controlAnswer, pcmControl};
-ghost use Rattle.sound.specs.Meaning.{configOf, Judges, asPcmEffect};
+ghost use Rattle.sound.specs.Meaning.{configOf, IsReply, asPcmEffect};
 use lifecycle::OUT_OF_ORDER;
 use lifecycle::next_state;
 use message::BAD_MSG;
@@ -23,7 +23,7 @@ use message::format_status;
 use message::header_status;
 
 // The bytes of a status, and of the answer room that a message must be lent.
-const STATUS: usize = 4;
+const STATUS_BYTES: usize = 4;
 
 const CONTROL_ROOM: usize = 264;
 
@@ -45,7 +45,7 @@ pub struct ControlOutcome {
 }
 
 // What a message comes to: its status, and the state that the stream is left in.
-struct Judged {
+struct ControlReply {
     status: u32,
     state: u32,
 }
@@ -69,11 +69,11 @@ pub extern "C" fn virtio_snd_control(
     if STOPPED < state {
         return refused(INVALID_STATE, state);
     }
-    let judged = judge(state, channels_min, channels_max, formats, rates, message);
-    let written = put_status(answer, message, judged.status);
+    let reply = control_reply(state, channels_min, channels_max, formats, rates, message);
+    let written = put_status(answer, message, reply.status);
     ControlOutcome {
         refusal: 0,
-        state: judged.state,
+        state: reply.state,
         written: written as u32,
     }
 }
@@ -90,20 +90,20 @@ fn refused(number: u32, state: u32) -> ControlOutcome
 }
 
 // The tests of a message, in their order.
-fn judge(
+fn control_reply(
     state: u32,
     channels_min: u8,
     channels_max: u8,
     formats: u16,
     rates: u16,
     message: &[u8],
-) -> Judged
+) -> ControlReply
     requires { ⌜ state ≤ pcmStopped ⌝ }
-    ensures { λ r. ⌜ Judges r state (onControl (configOf «channels_min» «channels_max» formats rates) state (now (message .entry))) ⌝ }
+    ensures { λ r. ⌜ IsReply r state (onControl (configOf «channels_min» «channels_max» formats rates) state (now (message .entry))) ⌝ }
 {
     let header = header_status(message);
     if header != STATUS_OK {
-        return Judged {
+        return ControlReply {
             status: header,
             state,
         };
@@ -111,25 +111,25 @@ fn judge(
     let code = field::read_u32(message, CODE_AT);
     let next = next_state(state, code);
     if next == OUT_OF_ORDER {
-        return Judged {
+        return ControlReply {
             status: BAD_MSG,
             state,
         };
     }
     if code != SET_FORMAT {
-        return Judged {
+        return ControlReply {
             status: STATUS_OK,
             state: next,
         };
     }
     let format = format_status(channels_min, channels_max, formats, rates, message);
     if format != STATUS_OK {
-        return Judged {
+        return ControlReply {
             status: format,
             state,
         };
     }
-    Judged {
+    ControlReply {
         status: STATUS_OK,
         state: next,
     }
@@ -142,12 +142,12 @@ fn put_status(answer: &mut [u8], message: &[u8], status: u32) -> usize
 {
     field::put_u32(answer, 0, status);
     if message.len() < PCM_HEADER {
-        return STATUS;
+        return STATUS_BYTES;
     }
     if field::read_u32(message, CODE_AT) != CHMAP_INFO {
-        return STATUS;
+        return STATUS_BYTES;
     }
-    put_zeros(&mut answer[STATUS..CONTROL_ROOM]);
+    put_zeros(&mut answer[STATUS_BYTES..CONTROL_ROOM]);
     CONTROL_ROOM
 }
 

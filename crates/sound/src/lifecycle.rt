@@ -8,7 +8,7 @@ ghost use Rattle.sound.specs.Meaning.{orderNumber};
 // What the table has where a request is out of order.
 pub const OUT_OF_ORDER: u32 = 6;
 
-// The requests that a state may take, which are the columns of the table.
+// How many request codes there are: a column of the table for each.
 const REQUESTS: u32 = 7;
 
 // A row for each state: fresh, set, prepared, running, paused, stopped. A column for each request: channel map, set format, prepare, start, stop,

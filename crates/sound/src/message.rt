@@ -33,7 +33,7 @@ const LAST_RATE: u16 = 13;
 // Lengths of requests: of a header, and with a format.
 pub const PCM_HEADER: usize = 8;
 
-const WITH_FORMAT: usize = 16;
+const SET_FORMAT_BYTES: usize = 16;
 
 // The offsets of the fields.
 pub const CODE_AT: usize = 0;
@@ -84,7 +84,7 @@ fn request_bytes(code: u32) -> usize
     ensures { λ r. ⌜ r ≡ requestBytes code ⌝ }
 {
     if code == SET_FORMAT {
-        return WITH_FORMAT;
+        return SET_FORMAT_BYTES;
     }
     PCM_HEADER
 }

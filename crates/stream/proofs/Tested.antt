@@ -1,6 +1,6 @@
 -- What the tests of each command give, by what the code found.
 use mathlib.Core.Path.{_≡_, refl, sym, ap, _∙_}
-use mathlib.Core.Bool.{Bool, true, false, not, _||_}
+use mathlib.Core.Bool.{true, false, not}
 use mathlib.Core.Option.{none, some}
 use mathlib.Core.List.{List, [], _∷_}
 use Prim.Native.Nat.{ℕ}
@@ -10,8 +10,8 @@ use Rattle.laws.specs.InOrder.{accept, _⇒_then_, byTests}
 use Rattle.laws.proofs.InOrder.{tests-accept, tests-hit, tests-miss, tests-either}
 use Rattle.model.specs.Device.{QueueType, created, queued, Slot, resource, Stream, queueOf, withQueue, withDrain, withSlots, queuedIn, bufferOf, present, noSlot, addResource, setState, freeAll}
 use Rattle.model.specs.Frames.{resourceId, timestampSent, frameWidth, frameHeight, frameRate}
-use Rattle.model.specs.Answers.{ErrorCode, invalidOperation, outOfMemory, invalidResource, success, parameters}
-use Rattle.model.specs.Replies.{Reply, reply, Request, own, fail}
+use Rattle.model.specs.Answers.{invalidOperation, outOfMemory, invalidResource, success, parameters}
+use Rattle.model.specs.Replies.{reply, Request, own, fail}
 use Rattle.model.specs.Commands.{onDrain, onCreateResource, onQueue, onDestroyAll, parameterWords, onGet, withParameters, formatOf, onSet}
 use Rattle.model.proofs.Slots.{Distinct}
 use Rattle.queue.specs.Search.{slotAt, isQueued, numberIn, findResource, findFree}

@@ -26,26 +26,26 @@ returns-2 c =
     let unknown : pcmStopped < _ = then2 .if2 .taken in
     no-state _ _ _ _ _ enough unknown (c .refused2 .ensures)
 
-judge-requires : tie.Need-judge-requires
-judge-requires c κs = search needs
+control-reply-requires : tie.Need-control-reply-requires
+control-reply-requires c κs = search needs
 
 put-status-requires : tie.Need-put-status-requires
 put-status-requires c κs = search needs
 
 cast-t14 : tie.Need-cast-t14
 cast-t14 c =
-    let after-put-status = c .before .before in let after-judge = after-put-status .before .before in let else2 = after-judge .before in
+    let after-put-status = c .before .before in let after-control-reply = after-put-status .before .before in let else2 = after-control-reply .before in
     let else1 = else2 .before in
-    omega (arith, few _ _ _ _ (else1 .if1 .left) (else2 .if2 .left) (after-judge .judge .ensures) (after-put-status .put-status .ensures))
+    omega (arith, few _ _ _ _ (else1 .if1 .left) (else2 .if2 .left) (after-control-reply .control-reply .ensures) (after-put-status .put-status .ensures))
 
 same-length : tie.Need-same-length
 same-length c = search needs
 
 returns-3 : tie.Need-returns-3
 returns-3 c =
-    let after-put-status = c .before .before in let after-judge = after-put-status .before .before in let else2 = after-judge .before in
+    let after-put-status = c .before .before in let after-control-reply = after-put-status .before .before in let else2 = after-control-reply .before in
     let else1 = else2 .before in
-    carried-out _ _ _ _ (else1 .if1 .left) (else2 .if2 .left) (after-judge .judge .ensures) (after-put-status .put-status .ensures)
+    carried-out _ _ _ _ (else1 .if1 .left) (else2 .if2 .left) (after-control-reply .control-reply .ensures) (after-put-status .put-status .ensures)
 
 pub virtio-snd-control-spec : {M : Type 1} → statement M
 virtio-snd-control-spec =
@@ -55,7 +55,7 @@ virtio-snd-control-spec =
     returns
     refused-requires-2
     returns-2
-    judge-requires
+    control-reply-requires
     put-status-requires
     cast-t14
     same-length

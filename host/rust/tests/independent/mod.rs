@@ -1,7 +1,8 @@
-//! An independent implementation of the device, to compare the core with.
+//! Independent implementations of the decoder, of its log and of the sound device, to compare the
+//! core with.
 //!
-//! It was written from document 01 and docs/LAYOUT.md without a look at the core's definitions or
-//! code, and is to stay so.
+//! They were written from documents 01 and 02, docs/LAYOUT.md and, for the sound device, 001, without
+//! a look at the core's definitions or code, and are to stay so.
 
 // Several programs share these modules, and none uses all of them.
 #![allow(dead_code)]

@@ -1,4 +1,4 @@
--- `sound::has_bit` meets its contract. The invariant: the bits is halved once for each bit below.
+-- `sound::has_bit` meets its contract. The invariant: the mask is halved once for each bit below.
 use mathlib.Core.Path.{_≡_, sym}
 use Prim.Native.Nat.{_≤_, _-_, _/_, _^_}
 use native.Mathlib.Nat.{div-one, div-div-eq-div-mul, pow-suc}

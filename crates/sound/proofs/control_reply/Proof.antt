@@ -1,10 +1,10 @@
--- `sound::judge` meets its contract: each way out is the first of the tests that hits.
+-- `sound::control_reply` meets its contract: each way out is the first of the tests that hits.
 use native.Mathlib.Omega.{arith}
 use denote.Ref.{now}
 use borrow.Author.Needs.{needs}
 use Rattle.sound.proofs.Laws.{header-fails, good-header, out-of-turn, plain-turn, format-bytes, format-fails, format-turn}
-use Rattle.sound.proofs.judge.Statement.{statement}
-use Rattle.sound.proofs.judge.Tie as tie
+use Rattle.sound.proofs.control_reply.Statement.{statement}
+use Rattle.sound.proofs.control_reply.Tie as tie
 
 header-status-requires : tie.Need-header-status-requires
 header-status-requires c κs = search needs
@@ -54,8 +54,8 @@ returns-5 c =
     format-turn _ _ _ (after-header-status .header-status .ensures) (else1 .if1 .left) (after-read-u32 .read-u32 .ensures)
     (after-next-state .next-state .ensures) (else2 .if2 .left) (else3 .if3 .left) (after-format-status .format-status .ensures) (c .if4 .left)
 
-pub judge-spec : {M : Type 1} → statement M
-judge-spec =
+pub control-reply-spec : {M : Type 1} → statement M
+control-reply-spec =
     tie.close
     (tie.spec
     header-status-requires
