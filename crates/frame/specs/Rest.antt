@@ -3,7 +3,7 @@
 use mathlib.Core.Bool.{not, _&&_}
 use mathlib.Core.Option.{some}
 use mathlib.Core.List.{[]}
-use Rattle.laws.specs.InOrder.{Tests, accept, _⇒_then_}
+use Rattle.laws.specs.InOrder.{TestList, accept, _⇒_then_}
 use Rattle.laws.specs.Lists.{isEmpty, isNone}
 use Rattle.model.specs.Device.{QueueType, queued, Stream, newStream, queueOf, withQueue, withSlots, queuedIn, bufferOf, present, noSlot, addResource, setState}
 use Rattle.model.specs.Frames.{codedFormat, resourceId, timestampSent, frameWidth, frameHeight, frameRate}
@@ -12,13 +12,13 @@ use Rattle.model.specs.Replies.{Reply, reply, Request}
 use Rattle.model.specs.Commands.{Surroundings, succeed, isInput, withParameters}
 
 -- 0x0101
-abbrev pub restOfCreate : Surroundings → Request → Tests ErrorCode Reply
+abbrev pub restOfCreate : Surroundings → Request → TestList ErrorCode Reply
 restOfCreate around c =
     around .full ⇒ outOfMemory then
     succeed c (some (newStream (codedFormat (c .frame))))
 
 -- 0x0104
-abbrev pub restOfResource : Request → Stream → QueueType → Tests ErrorCode Reply
+abbrev pub restOfResource : Request → Stream → QueueType → TestList ErrorCode Reply
 restOfResource c b q =
     let r = resourceId (c .frame) in
     let s = queueOf q b .slots in
@@ -27,7 +27,7 @@ restOfResource c b q =
     succeed c (some (withQueue q (withSlots (addResource r s) (queueOf q b)) b))
 
 -- 0x0105
-abbrev pub restOfQueue : Request → Stream → QueueType → Tests ErrorCode Reply
+abbrev pub restOfQueue : Request → Stream → QueueType → TestList ErrorCode Reply
 restOfQueue c b q =
     let r = resourceId (c .frame) in
     let s = queueOf q b .slots in
@@ -38,7 +38,7 @@ restOfQueue c b q =
     accept (reply [] (some (withQueue q (withSlots (setState r (queued (c .ticket) (timestampSent (c .frame))) s) (queueOf q b)) b)))
 
 -- 0x0109
-abbrev pub restOfSet : Request → Stream → QueueType → Tests ErrorCode Reply
+abbrev pub restOfSet : Request → Stream → QueueType → TestList ErrorCode Reply
 restOfSet c b q =
     let f = c .frame in
     not (isEmpty (queuedIn (queueOf q b .slots))) ⇒ invalidOperation then

@@ -8,7 +8,7 @@ use mathlib.Core.List.{List, [], _∷_, _++_, map}
 use lib.ListN.{length, take, drop, replicate}
 use lib.Dec.{eqb, ltb}
 use Rattle.laws.specs.Tests.{within}
-use Rattle.laws.specs.InOrder.{Tests, accept, _⇒_then_, byTests}
+use Rattle.laws.specs.InOrder.{TestList, accept, _⇒_then_, byTests}
 use Rattle.laws.specs.Lists.{isEmpty, isNone, toList, total}
 use Rattle.tag.specs.Tag.{goodTag, tagIn}
 use Rattle.model.specs.Numbers.{queueSlots, maxPlanes, firstCoded, lastCoded, nv12, err}
@@ -26,7 +26,7 @@ abbrev pub withFull : Bool → Surroundings → Surroundings
 withFull f around = record { full = f }
 
 -- plain success, and the record that is left
-abbrev pub succeed : Request → Option Stream → Tests ErrorCode Reply
+abbrev pub succeed : Request → Option Stream → TestList ErrorCode Reply
 succeed c next = accept (reply (own c success ∷ []) next)
 
 -- 0x0101 create

@@ -68,7 +68,7 @@ abbrev pub stateAfter : ℕ → PcmReply → ℕ
 stateAfter s (goesTo n) = n
 stateAfter s (rejects e) = s
 
--- a message in state s: request 10's tests, in its order
+-- a message in state s: request 10's tests, in its order; where none hits, the machine leads on
 unfoldable pub onControl : PcmConfig → ℕ → List ℕ → PcmReply
 onControl config s m =
     let k = codeIn m in

@@ -11,7 +11,7 @@ use lib.ListN.{length, drop, length-append, length-drop}
 use lib.Seq.{sets, sets-eq, length-sets, length-take-le}
 use borrow.Author.Tests.{le-leb, lt-leb, leb-true, lt-ltb, le-ltb, ltb-false, eqb-true, not-false, eq-eqb, ne-eqb}
 use Rattle.laws.specs.Tests.{within}
-use Rattle.laws.specs.InOrder.{Tests, accept, _⇒_then_, byTests, firstHit}
+use Rattle.laws.specs.InOrder.{TestList, accept, _⇒_then_, byTests, firstHit}
 use Rattle.laws.specs.Lists.{isNone}
 use Rattle.laws.specs.Parts.{part, withPart, zeros}
 use Rattle.laws.specs.Stores.{Wrote}
@@ -72,7 +72,7 @@ module _ (m : List ℕ) {r : ℕ} (e : r ≡ checkStatus (firstHit (headerTests 
 
 module _ (config : PcmConfig) (s : ℕ) (m : List ℕ) where
   -- the tests behind the header's
-  abbrev behind-header : Tests PcmError PcmReply
+  abbrev behind-header : TestList PcmError PcmReply
   behind-header =
       let k = codeIn m in
       let setting = eqb k setFormatCode in

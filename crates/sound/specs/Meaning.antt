@@ -30,7 +30,7 @@ checkStatus (some e) = errorStatus e
 abbrev pub outOfOrder : ℕ
 outOfOrder = 6
 
--- the state that a request leads to
+-- the state that a request leads to, as a number
 abbrev pub orderNumber : Option ℕ → ℕ
 orderNumber none = outOfOrder
 orderNumber (some n) = n

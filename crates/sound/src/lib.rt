@@ -89,7 +89,7 @@ fn refused(number: u32, state: u32) -> ControlOutcome
     }
 }
 
-// The tests of a message, in their order.
+// What a message comes to, by its tests in order.
 fn control_reply(
     state: u32,
     channels_min: u8,

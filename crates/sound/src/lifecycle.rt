@@ -21,7 +21,7 @@ const NEXT: [u8; 42] = *b"\
     \x06\x06\x06\x06\x05\x06\x03\
     \x06\x01\x02\x06\x06\x06\x06";
 
-// The state that a request leads to.
+// The state that a request leads to, or OUT_OF_ORDER.
 pub fn next_state(state: u32, code: u32) -> u32
     requires { ⌜ (state ≤ pcmStopped) × (code ≤ unpauseCode) ⌝ }
     ensures { λ r. ⌜ r ≡ orderNumber (nextState state code) ⌝ }
