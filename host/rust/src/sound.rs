@@ -180,7 +180,8 @@ impl PcmOutput {
             message,
             &mut self.room,
         );
-        debug_assert_eq!(outcome.refusal, 0, "the room has its full length, and the state is one");
+        // An answer must not go missing in silence.
+        assert_eq!(outcome.refusal, 0, "refused: archive and package do not match");
         self.state = State::from_number(outcome.state).unwrap_or_else(|| {
             panic!("state {} is not known: archive and package do not match", outcome.state)
         });
