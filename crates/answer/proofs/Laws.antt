@@ -1,6 +1,5 @@
 -- The bytes that the writers store are those of the model's answers, each with its length.
 use mathlib.Core.Path.{_≡_, refl, sym, ap, _∙_}
-use mathlib.Core.Option.{some}
 use mathlib.Core.List.{List, [], _∷_, _++_, append-assoc, append-nil}
 use Prim.Native.Nat.{ℕ, _+_, _*_, _/_}
 use native.Mathlib.Omega.{arith}
@@ -12,10 +11,10 @@ use Rattle.field.specs.Field.{littleEndian}
 use Rattle.field.proofs.Laws.{length-littleEndian}
 use Rattle.model.specs.Device.{QueueType, input, output, Queue, Stream, queueOf}
 use Rattle.model.specs.Frames.{queueNumber}
-use Rattle.model.specs.Answers.{code, Response, success, bufferDone, drainDone, parameters, failure, wordBytes, responseBytes, bytesOf}
+use Rattle.model.specs.Answers.{Response, bufferDone, parameters, wordBytes, responseType, payload, responseBytes, bytesOf}
 use Rattle.model.specs.Commands.{planes, parameterWords}
 use Rattle.model.proofs.ReadBack.{length-words, length-parameters}
-use Rattle.answer.specs.Answer.{answerTo, plainBytes, plainCode, pairs, NumbersOf}
+use Rattle.answer.specs.Answer.{answerTo, plainBytes, pairs, NumbersOf}
 
 -- words after words are words
 pub words-append : (xs ys : List ℕ) → wordBytes (xs ++ ys) ≡ wordBytes xs ++ wordBytes ys
@@ -42,17 +41,13 @@ pub plain-length : (ticket code stream : ℕ) → length (plainBytes ticket code
 unfolding plainBytes
 plain-length ticket code stream = length-words (ticket ∷ 8 ∷ code ∷ stream ∷ [])
 
--- plain success, a drain that ended and an error are what `put_plain` writes of their code
-pub plain-answer : (ticket stream k : ℕ) (p : Response) → plainCode p ≡ some k → plainBytes ticket k stream ≡ bytesOf (answerTo ticket stream p ∷ [])
+-- a response without payload, which is plain success, a drain that ended and an error, is what `put_plain` writes of its type
+pub plain-answer : (ticket stream : ℕ) (p : Response) → payload p ≡ [] → plainBytes ticket (responseType p) stream ≡ bytesOf (answerTo ticket stream p ∷ [])
 unfolding plainBytes responseBytes littleEndian
-plain-answer ticket stream k success e = let h : k ≡ 0x0200 = cc in rw h
-plain-answer ticket stream k (bufferDone q ts flags) e = absurd (let z : _≡_ {A = ℕ} 0 1 = cc in omega arith)
-plain-answer ticket stream k drainDone e = let h : k ≡ 0x0200 = cc in rw h
-plain-answer ticket stream k (parameters ws) e = absurd (let z : _≡_ {A = ℕ} 0 1 = cc in omega arith)
-plain-answer ticket stream k (failure x) e = let h : k ≡ code x = cc in rw h
+plain-answer ticket stream p e = rw e
 
-pub wrote-plain : {d e : List ℕ} {at r : ℕ} (ticket stream k : ℕ) (p : Response) → plainCode p ≡ some k → Wrote d e at r (plainBytes ticket k stream) → Wrote d e at r (bytesOf (answerTo ticket stream p ∷ []))
-wrote-plain ticket stream k p h w = rw (plain-answer ticket stream k p h) at w
+pub wrote-plain : {d e : List ℕ} {at r : ℕ} (ticket stream : ℕ) (p : Response) → payload p ≡ [] → Wrote d e at r (plainBytes ticket (responseType p) stream) → Wrote d e at r (bytesOf (answerTo ticket stream p ∷ []))
+wrote-plain ticket stream p h w = rw (plain-answer ticket stream p h) at w
 
 -- Answers to buffers
 
@@ -61,15 +56,15 @@ unfolding responseBytes littleEndian
 buffer-length ticket stream ts flags q = refl
 
 buffer-answer : (ticket stream ts flags : ℕ) (q : QueueType)
-    → wordBytes (ticket ∷ 24 ∷ 0x0200 ∷ stream ∷ []) ++ (littleEndian 8 ts ++ (littleEndian 4 flags ++ littleEndian 4 0)) ≡ bytesOf (answerTo ticket stream (bufferDone q ts flags) ∷ [])
+    → wordBytes (ticket ∷ 24 ∷ responseType (bufferDone q ts flags) ∷ stream ∷ []) ++ (littleEndian 8 ts ++ (littleEndian 4 flags ++ littleEndian 4 0)) ≡ bytesOf (answerTo ticket stream (bufferDone q ts flags) ∷ [])
 unfolding responseBytes littleEndian
 buffer-answer ticket stream ts flags q = refl
 
 pub sets-buffer : (d : List ℕ) {d₁ d₂ d₃ d₄ : List ℕ} (at ticket stream ts flags : ℕ) (q : QueueType)
-    → d₁ ≡ sets d at (wordBytes (ticket ∷ 24 ∷ 0x0200 ∷ stream ∷ [])) → d₂ ≡ sets d₁ (at + 16) (littleEndian 8 ts) → d₃ ≡ sets d₂ (at + 24) (littleEndian 4 flags) → d₄ ≡ sets d₃ (at + 28) (littleEndian 4 0)
+    → d₁ ≡ sets d at (wordBytes (ticket ∷ 24 ∷ responseType (bufferDone q ts flags) ∷ stream ∷ [])) → d₂ ≡ sets d₁ (at + 16) (littleEndian 8 ts) → d₃ ≡ sets d₂ (at + 24) (littleEndian 4 flags) → d₄ ≡ sets d₃ (at + 28) (littleEndian 4 0)
     → d₄ ≡ sets d at (bytesOf (answerTo ticket stream (bufferDone q ts flags) ∷ []))
 sets-buffer d at ticket stream ts flags q x y z w =
-    let head = ticket ∷ 24 ∷ 0x0200 ∷ stream ∷ [] in
+    let head = ticket ∷ 24 ∷ responseType (bufferDone q ts flags) ∷ stream ∷ [] in
     let h : length (wordBytes head) ≡ 16 = length-words head in
     let l : length (littleEndian 8 ts) ≡ 8 = length-littleEndian 8 ts in
     let m : length (littleEndian 4 flags) ≡ 4 = length-littleEndian 4 flags in
@@ -90,7 +85,7 @@ output-planes q e w h = rw (e, w, h)
 
 -- 28 words in either queue, 120 bytes with the answer's type and the stream number
 words-answer : (ticket stream : ℕ) (ws : List ℕ) → length ws ≡ 28 → wordBytes (ticket ∷ 120 ∷ 0x0203 ∷ stream ∷ ws) ≡ bytesOf (answerTo ticket stream (parameters ws) ∷ [])
-unfolding responseBytes
+unfolding responseBytes littleEndian
 words-answer ticket stream ws h =
     let n : length (wordBytes (0x0203 ∷ stream ∷ ws)) ≡ 120 = length-words (0x0203 ∷ stream ∷ ws) ∙ (omega arith) in
     rw (append-nil, n)

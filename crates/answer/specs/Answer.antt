@@ -1,11 +1,10 @@
 -- What the writers' arguments stand for in the model.
 use mathlib.Core.Path.{_≡_}
-use mathlib.Core.Option.{Option, none, some}
 use mathlib.Core.List.{List, [], _∷_}
 use Prim.Native.Nat.{ℕ}
 use lib.ListN.{replicate}
 use Rattle.model.specs.Device.{QueueType, Stream, queueOf}
-use Rattle.model.specs.Answers.{code, Response, success, bufferDone, drainDone, parameters, failure, Answer, wordBytes}
+use Rattle.model.specs.Answers.{Response, Answer, wordBytes}
 use Rattle.model.specs.Commands.{formatOf}
 
 -- a response to a stream, under a ticket
@@ -15,14 +14,6 @@ answerTo ticket stream response = record { ticket = ticket; stream = stream; res
 -- the bytes of an answer that is a code and the stream number
 unfoldable pub plainBytes : ℕ → ℕ → ℕ → List ℕ
 plainBytes ticket code stream = wordBytes (ticket ∷ 8 ∷ code ∷ stream ∷ [])
-
--- the code of a response that has nothing but a code and the stream number
-abbrev pub plainCode : Response → Option ℕ
-plainCode success = some 0x0200
-plainCode (bufferDone q timestamp flags) = none
-plainCode drainDone = some 0x0200
-plainCode (parameters ws) = none
-plainCode (failure e) = some (code e)
 
 -- 8 pairs of size and stride, of which the last six are 0
 unfoldable pub pairs : ℕ → ℕ → ℕ → ℕ → List ℕ

@@ -16,7 +16,7 @@ use Rattle.laws.proofs.Ascending.{length-ascending}
 use Rattle.laws.proofs.Stores.{wrote-none, wrote-append}
 use Rattle.model.specs.Device.{QueueType, input, output, dequeued, Slot, resource, Stream, occupied, place, queueOf, withQueue, withSlots, Buffer, buffer, queuedIn, byResource, bufferOf, withDrain}
 use Rattle.model.specs.Frames.{queueNamed}
-use Rattle.model.specs.Answers.{bufferDone, drainDone, Answer, bytesOf}
+use Rattle.model.specs.Answers.{bufferDone, drainDone, Answer, responseType, bytesOf}
 use Rattle.model.specs.Replies.{Reply, refuse, reply}
 use Rattle.model.specs.Commands.{stoppedAnswers, drainAnswers, onDestroy, drainEnded, drainLeft, onClear}
 use Rattle.model.specs.Reports.{timestampOf, badEos, endDrain, onDrained, finishBuffer, finishQueue, onFinish}
@@ -203,8 +203,8 @@ module _ {d e : List ℕ} {at r : ℕ} (n : ℕ) where
       subst (λ (x : ℕ). Wrote d e at r (bytesOf (answerTo x n (bufferDone q (i .timestamp) 1) ∷ []))) p
       (subst (λ (x : ℕ). Wrote d e at r (bytesOf (answerTo ticket n (bufferDone q x 1) ∷ []))) u w)
 
-  pub wrote-drain : (t : ℕ) (x : Option ℕ) → some t ≡ x → Wrote d e at r (plainBytes t 0x0200 n) → Wrote d e at r (bytesOf (drainAnswers n x))
-  wrote-drain t x is w = subst (λ (o : Option ℕ). Wrote d e at r (bytesOf (drainAnswers n o))) is (wrote-plain t n 0x0200 drainDone refl w)
+  pub wrote-drain : (t : ℕ) (x : Option ℕ) → some t ≡ x → Wrote d e at r (plainBytes t (responseType drainDone) n) → Wrote d e at r (bytesOf (drainAnswers n x))
+  wrote-drain t x is w = subst (λ (o : Option ℕ). Wrote d e at r (bytesOf (drainAnswers n o))) is (wrote-plain t n drainDone refl w)
 
   pub wrote-ended : (q : QueueType) (b : Stream) → q ≡ input → Wrote d e at r (bytesOf (drainAnswers n (b .draining))) → Wrote d e at r (bytesOf (drainAnswers n (drainEnded q b)))
   wrote-ended q b is w = subst (λ (x : QueueType). Wrote d e at r (bytesOf (drainAnswers n (drainEnded x b)))) (sym is) w

@@ -13,7 +13,7 @@ use Rattle.laws.proofs.Tests.{and-right}
 use Rattle.laws.proofs.Lists.{all-getD}
 use Rattle.laws.proofs.Stores.{wrote-none}
 use Rattle.model.specs.Device.{Stream, Place, vacant, occupied, Device, recordOf, noPlace, place, withPlaces, putBack}
-use Rattle.model.specs.Answers.{ErrorCode, code, success, failure}
+use Rattle.model.specs.Answers.{ErrorCode, code, success, failure, responseType}
 use Rattle.model.specs.Replies.{Reply, refuse, reply, fail}
 use Rattle.model.specs.Commands.{Surroundings}
 use Rattle.model.specs.Steps.{Act, command, around, serve}
@@ -61,7 +61,7 @@ module _ {words : List ℕ} {d : Device} (h : Encodes words d) where
   error-served n t f e is w = record {
     refusal-is = sym (ap (λ (v : Reply). v .refusal) is);
     words = rw is (stays n);
-    bytes = rw is (wrote-plain t n (code e) (failure e) refl w);
+    bytes = rw is (wrote-plain t n (failure e) refl w);
   }
 
   -- a report that is refused with k
@@ -114,13 +114,13 @@ module _ {words : List ℕ} {d : Device} (h : Encodes words d) where
     pub in-vacant : {ys room room′ : List ℕ} {written : ℕ} (t : ℕ) (f : List ℕ) (b : Stream)
         → replyOf d n (command t f) ≡ reply (answerTo t n success ∷ []) (some b)
         → (part (512 * k) (512 * k + 512 - 512 * k) words ≡ placeWords vacant → ys ≡ placeWords (occupied n b))
-        → Wrote room room′ 0 written (plainBytes t 0x0200 n) → Served d n (command t f) (withPart (512 * k) (512 * k + 512 - 512 * k) words ys) room room′ 0 written
+        → Wrote room room′ 0 written (plainBytes t (responseType success) n) → Served d n (command t f) (withPart (512 * k) (512 * k + 512 - 512 * k) words ys) room room′ 0 written
     in-vacant {ys} t f b is made w = record {
       refusal-is = sym (ap (λ (v : Reply). v .refusal) is);
       words = rw is
           (block-lent d sizes eight words k k8 (h .held) ys (occupied n b) (λ e. made (e ∙ ap placeWords (free .at)))
           ∙ ap (λ ps. encode (withPlaces ps d)) (sym (vacant-put n k b (d .places) free new)));
-      bytes = rw is (wrote-plain t n 0x0200 success refl w);
+      bytes = rw is (wrote-plain t n success refl w);
     }
 
 -- the stream number as the frame has it

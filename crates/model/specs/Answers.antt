@@ -39,13 +39,25 @@ abbrev pub wordBytes : List ℕ → List ℕ
 wordBytes [] = []
 wordBytes (v ∷ vs) = littleEndian 4 v ++ wordBytes vs
 
--- the bytes of a response to a stream: the type of the answer, the stream number, the rest
+-- the type of a response
+abbrev pub responseType : Response → ℕ
+responseType success = 0x0200
+responseType (bufferDone q ts flags) = 0x0200
+responseType drainDone = 0x0200
+responseType (parameters ws) = 0x0203
+responseType (failure e) = code e
+
+-- what stands behind its header: of a buffer the timestamp, the flags and size 0
+abbrev pub payload : Response → List ℕ
+payload success = []
+payload (bufferDone q ts flags) = littleEndian 8 ts ++ wordBytes (flags ∷ 0 ∷ [])
+payload drainDone = []
+payload (parameters ws) = wordBytes ws
+payload (failure e) = []
+
+-- the bytes of a response to a stream: the header, which is the type and the stream number, and the payload
 unfoldable pub responseBytes : ℕ → Response → List ℕ
-responseBytes n success = wordBytes (0x0200 ∷ n ∷ [])
-responseBytes n (bufferDone q ts flags) = wordBytes (0x0200 ∷ n ∷ []) ++ (littleEndian 8 ts ++ wordBytes (flags ∷ 0 ∷ []))
-responseBytes n drainDone = wordBytes (0x0200 ∷ n ∷ [])
-responseBytes n (parameters ws) = wordBytes (0x0203 ∷ n ∷ ws)
-responseBytes n (failure e) = wordBytes (code e ∷ n ∷ [])
+responseBytes n r = wordBytes (responseType r ∷ n ∷ []) ++ payload r
 
 -- the bytes of an answer's response
 abbrev pub responseOf : Answer → List ℕ

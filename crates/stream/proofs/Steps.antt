@@ -13,7 +13,7 @@ use Rattle.laws.specs.Stores.{Wrote}
 use Rattle.laws.proofs.Tests.{and-left, within-bounds}
 use Rattle.laws.proofs.Stores.{wrote-none}
 use Rattle.model.specs.Device.{QueueType, Queue, Stream, occupied, queueOf, withQueue, place}
-use Rattle.model.specs.Answers.{ErrorCode, code, Response, success, failure, Answer, bytesOf}
+use Rattle.model.specs.Answers.{ErrorCode, code, Response, success, failure, Answer, responseType, payload, bytesOf}
 use Rattle.model.specs.Replies.{Reply, reply}
 use Rattle.model.specs.Commands.{badExtent}
 use Rattle.model.proofs.Slots.{Distinct}
@@ -22,7 +22,7 @@ use Rattle.queue.specs.Words.{queueWords}
 use Rattle.table.specs.Blocks.{queueStart, placeWords}
 use Rattle.table.specs.Search.{hasAllSlots}
 use Rattle.table.proofs.Records.{queue-sized, queue-read, queue-lent}
-use Rattle.answer.specs.Answer.{answerTo, plainBytes, plainCode}
+use Rattle.answer.specs.Answer.{answerTo, plainBytes}
 use Rattle.answer.proofs.Laws.{wrote-plain}
 use Rattle.stream.specs.Replied.{BlockOf, Replied}
 
@@ -68,19 +68,19 @@ module _ {n : ℕ} {v : Reply} {block room room′ : List ℕ} {written : ℕ} w
   replied-by l next e w x = record { words = rw e w; bytes = rw e x }
 
   -- one plain answer under the ticket t
-  answered-plain : (t k : ℕ) (p : Response) (next : Option Stream) → plainCode p ≡ some k → v ≡ reply (answerTo t n p ∷ []) next
-      → block ≡ placeWords (place n next) → Wrote room room′ 0 written (plainBytes t k n) → Replied n v block room room′ written
-  answered-plain t k p next is e w x = replied-by (answerTo t n p ∷ []) next e w (wrote-plain t n k p is x)
+  answered-plain : (t : ℕ) (p : Response) (next : Option Stream) → payload p ≡ [] → v ≡ reply (answerTo t n p ∷ []) next
+      → block ≡ placeWords (place n next) → Wrote room room′ 0 written (plainBytes t (responseType p) n) → Replied n v block room room′ written
+  answered-plain t p next is e w x = replied-by (answerTo t n p ∷ []) next e w (wrote-plain t n p is x)
 
   -- plain success, and a block that holds the next record
-  pub succeeded : (t : ℕ) (next : Option Stream) → v ≡ reply (answerTo t n success ∷ []) next → block ≡ placeWords (place n next) → Wrote room room′ 0 written (plainBytes t 0x0200 n)
+  pub succeeded : (t : ℕ) (next : Option Stream) → v ≡ reply (answerTo t n success ∷ []) next → block ≡ placeWords (place n next) → Wrote room room′ 0 written (plainBytes t (responseType success) n)
       → Replied n v block room room′ written
-  succeeded t next e w x = answered-plain t 0x0200 success next refl e w x
+  succeeded t next e w x = answered-plain t success next refl e w x
 
   -- an error, and a block that stays
   pub failed : {b : Stream} (t : ℕ) (e : ErrorCode) → BlockOf n block b → v ≡ reply (answerTo t n (failure e) ∷ []) (some b) → Wrote room room′ 0 written (plainBytes t (code e) n)
       → Replied n v block room room′ written
-  failed {b} t e h is x = answered-plain t (code e) (failure e) (some b) refl is (h .held) x
+  failed {b} t e h is x = answered-plain t (failure e) (some b) refl is (h .held) x
 
 -- no answer, and a block that holds the next record
 pub silent : {n : ℕ} {v : Reply} {block : List ℕ} (room : List ℕ) (next : Option Stream) → v ≡ reply [] next → block ≡ placeWords (place n next) → Replied n v block room room 0

@@ -96,7 +96,7 @@ returns-3 c b h =
     (drained-ends n b _ (ap drainOf (sym (after-drain .drain .given .1)) ∙ after-pending-drain .pending-drain .ensures n b (h .held))
     (not-false _ (sym (after-any-queued .any-queued .ensures (b .inputs) (queue-words h input _ (after-queue-start .queue-start .ensures .1))) ∙ else1 .if1 .left)))
     (after-drop-drain .drop-drain .ensures n b (h .held))
-    (wrote-plain _ n 0x0200 drainDone refl (after-put-plain .put-plain .ensures))
+    (wrote-plain _ n drainDone refl (after-put-plain .put-plain .ensures))
 
 pub drained-spec : {M : Type 1} → statement M
 drained-spec =

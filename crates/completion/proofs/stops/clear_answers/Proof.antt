@@ -32,7 +32,7 @@ returns c n b h =
     let ended = drainAnswers (start .args .stream) (drainEnded q b) in
     let itself = answerTo (start .args .ticket) (start .args .stream) success ∷ [] in
     wrote-more (stoppedAnswers (start .args .stream) q (buffers q b)) (ended ++ itself) (after-stop-queue .stop-queue .ensures .1 n b h)
-    (wrote-more ended itself (after-ended-answer .ended-answer .ensures .1 n b h) (wrote-plain (start .args .ticket) (start .args .stream) 0x0200 success refl (after-put-plain .put-plain .ensures)))
+    (wrote-more ended itself (after-ended-answer .ended-answer .ensures .1 n b h) (wrote-plain (start .args .ticket) (start .args .stream) success refl (after-put-plain .put-plain .ensures)))
 
 pub clear-answers-spec : {M : Type 1} → statement M
 clear-answers-spec =

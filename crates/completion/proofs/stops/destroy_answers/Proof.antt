@@ -36,7 +36,7 @@ returns c n b h =
     let itself = answerTo (start .args .ticket) (start .args .stream) success ∷ [] in
     wrote-more (stoppedAnswers (start .args .stream) input (buffers input b)) (outputs ++ (drain ++ itself)) (after-stop-queue .stop-queue .ensures .1 n b h)
     (wrote-more outputs (drain ++ itself) (after-stop-queue2 .stop-queue2 .ensures .1 n b h)
-    (wrote-more drain itself (after-drain-answer .drain-answer .ensures .1 n b h) (wrote-plain (start .args .ticket) (start .args .stream) 0x0200 success refl (after-put-plain .put-plain .ensures))))
+    (wrote-more drain itself (after-drain-answer .drain-answer .ensures .1 n b h) (wrote-plain (start .args .ticket) (start .args .stream) success refl (after-put-plain .put-plain .ensures))))
 
 pub destroy-answers-spec : {M : Type 1} → statement M
 destroy-answers-spec =
