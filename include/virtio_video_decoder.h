@@ -69,9 +69,9 @@ enum virtio_video_cmd_type {
 	VIRTIO_VIDEO_CMD_SET_CONTROL = 0x010C,
 
 	/* Responses: success */
-	VIRTIO_VIDEO_RESP_OK_NODATA = 0x0200,		/* also that of a buffer's answer */
+	VIRTIO_VIDEO_RESP_OK_NODATA = 0x0200,		/* a header alone, also of a drain */
 	VIRTIO_VIDEO_RESP_OK_QUERY_CAPABILITY = 0x0201,	/* not given */
-	VIRTIO_VIDEO_RESP_OK_RESOURCE_QUEUE = 0x0202,	/* not given: see OK_NODATA */
+	VIRTIO_VIDEO_RESP_OK_RESOURCE_QUEUE = 0x0202,	/* a buffer's, finished or stopped */
 	VIRTIO_VIDEO_RESP_OK_GET_PARAMS = 0x0203,
 	VIRTIO_VIDEO_RESP_OK_QUERY_CONTROL = 0x0204,	/* not given */
 	VIRTIO_VIDEO_RESP_OK_GET_CONTROL = 0x0205,	/* not given */
@@ -205,7 +205,7 @@ enum virtio_video_buffer_flag {
 	VIRTIO_VIDEO_BUFFER_FLAG_EOS = 0x0002,	/* last output of a drain */
 };
 
-/* A buffer's answer; its type is VIRTIO_VIDEO_RESP_OK_NODATA */
+/* A buffer's answer; its type is VIRTIO_VIDEO_RESP_OK_RESOURCE_QUEUE */
 struct virtio_video_resource_queue_resp {
 	struct virtio_video_cmd_hdr hdr;
 	/* of an input its own; of an output the report's, or where it was stopped its own */

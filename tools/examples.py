@@ -100,7 +100,7 @@ def buffer(of, timestamp, flags=0, ticket=None):
     text = f"the buffer of line {of}, timestamp {timestamp}, flags {flags}"
     number = of if ticket is None else ticket
     low, high = timestamp % 2**32, timestamp >> 32
-    return lambda _, stream: answer(text, number, 0x0200, stream, low, high, flags, 0)
+    return lambda _, stream: answer(text, number, 0x0202, stream, low, high, flags, 0)
 
 
 def parameters(queue, format, width, height, rate=0):

@@ -33,6 +33,8 @@ static const char *type_name(uint32_t type)
 	switch (type) {
 	case VIRTIO_VIDEO_RESP_OK_NODATA:
 		return "OK_NODATA";
+	case VIRTIO_VIDEO_RESP_OK_RESOURCE_QUEUE:
+		return "OK_RESOURCE_QUEUE";
 	case VIRTIO_VIDEO_RESP_OK_GET_PARAMS:
 		return "OK_GET_PARAMS";
 	case VIRTIO_VIDEO_RESP_ERR_INVALID_OPERATION:
@@ -52,6 +54,18 @@ static const char *type_name(uint32_t type)
 	}
 }
 
+static size_t length_of(uint32_t type)
+{
+	switch (type) {
+	case VIRTIO_VIDEO_RESP_OK_RESOURCE_QUEUE:
+		return sizeof(struct virtio_video_resource_queue_resp);
+	case VIRTIO_VIDEO_RESP_OK_GET_PARAMS:
+		return sizeof(struct virtio_video_get_params_resp);
+	default:
+		return sizeof(struct virtio_video_cmd_hdr);
+	}
+}
+
 static void show_response(const uint8_t *bytes, size_t length)
 {
 	struct virtio_video_cmd_hdr hdr;
@@ -59,13 +73,17 @@ static void show_response(const uint8_t *bytes, size_t length)
 	struct virtio_video_get_params_resp get;
 
 	memcpy(&hdr, bytes, sizeof(hdr));
+	if (length != length_of(hdr.type)) {
+		wrong("a response of another length than its type has");
+		return;
+	}
 	printf("%s, stream %u", type_name(hdr.type), (unsigned)hdr.stream_id);
-	if (length == sizeof(buffer)) {
+	if (hdr.type == VIRTIO_VIDEO_RESP_OK_RESOURCE_QUEUE) {
 		memcpy(&buffer, bytes, sizeof(buffer));
 		printf(", timestamp %llu%s%s", (unsigned long long)buffer.timestamp,
 		       buffer.flags & VIRTIO_VIDEO_BUFFER_FLAG_ERR ? ", ERR" : "",
 		       buffer.flags & VIRTIO_VIDEO_BUFFER_FLAG_EOS ? ", EOS" : "");
-	} else if (length == sizeof(get)) {
+	} else if (hdr.type == VIRTIO_VIDEO_RESP_OK_GET_PARAMS) {
 		memcpy(&get, bytes, sizeof(get));
 		printf(", format 0x%x, %u by %u, %u planes", (unsigned)get.params.format,
 		       (unsigned)get.params.frame_width, (unsigned)get.params.frame_height,
@@ -317,7 +335,7 @@ static void decoding(void)
 	      "0f000000 08000000 03030000 07000000");
 	/* an input keeps its own timestamp, an output gets the report's */
 	finish("input 5 is done", INPUT, 5, 0, 77, 0,
-	       "0c000000 18000000 00020000 07000000 e803000000000000 00000000 00000000");
+	       "0c000000 18000000 02020000 07000000 e803000000000000 00000000 00000000");
 	finish("input 5 is done, told twice", INPUT, 5, 0, 77,
 	       VIRTIO_VIDEO_REFUSAL_UNEXPECTED_REPORT, "");
 	finish("output 5 is done, with a flag that there is not", OUTPUT, 5, 4, 1000,
@@ -325,7 +343,7 @@ static void decoding(void)
 	finish("output 5 is done, EOS without a drain", OUTPUT, 5, VIRTIO_VIDEO_BUFFER_FLAG_EOS,
 	       1000, VIRTIO_VIDEO_REFUSAL_BAD_FLAGS, "");
 	finish("output 5 is done", OUTPUT, 5, 0, 1000, 0,
-	       "0d000000 18000000 00020000 07000000 e803000000000000 00000000 00000000");
+	       "0d000000 18000000 02020000 07000000 e803000000000000 00000000 00000000");
 }
 
 static void draining(void)
@@ -339,10 +357,10 @@ static void draining(void)
 	queue(20, "queue output 5 while draining", OUTPUT, 5, 0, "");
 	drained(VIRTIO_VIDEO_REFUSAL_UNEXPECTED_REPORT, "");
 	finish("input 6 is done, and failed", INPUT, 6, VIRTIO_VIDEO_BUFFER_FLAG_ERR, 0, 0,
-	       "10000000 18000000 00020000 07000000 0200000001000000 01000000 00000000");
+	       "10000000 18000000 02020000 07000000 0200000001000000 01000000 00000000");
 	finish("output 5 is done, the last one", OUTPUT, 5, VIRTIO_VIDEO_BUFFER_FLAG_EOS,
 	       UINT64_C(0x100000002), 0,
-	       "14000000 18000000 00020000 07000000 0200000001000000 02000000 00000000");
+	       "14000000 18000000 02020000 07000000 0200000001000000 02000000 00000000");
 	drained(0, "11000000 08000000 00020000 07000000");
 	drained(VIRTIO_VIDEO_REFUSAL_UNEXPECTED_REPORT, "");
 }
@@ -358,8 +376,8 @@ static void stopping(void)
 		 "19000000 08000000 00020000 07000000");
 	/* 5 before 6, then the drain, then itself */
 	of_queue(26, "clear the input queue", VIRTIO_VIDEO_CMD_QUEUE_CLEAR, INPUT,
-		 "16000000 18000000 00020000 07000000 3200000000000000 01000000 00000000"
-		 "15000000 18000000 00020000 07000000 3c00000000000000 01000000 00000000"
+		 "16000000 18000000 02020000 07000000 3200000000000000 01000000 00000000"
+		 "15000000 18000000 02020000 07000000 3c00000000000000 01000000 00000000"
 		 "18000000 08000000 00020000 07000000"
 		 "1a000000 08000000 00020000 07000000");
 	of_queue(27, "destroy all inputs", VIRTIO_VIDEO_CMD_RESOURCE_DESTROY_ALL, INPUT,
@@ -371,7 +389,7 @@ static void stopping(void)
 	queue(30, "queue output 5", OUTPUT, 5, 90, "");
 	plain(31, "drain", VIRTIO_VIDEO_CMD_STREAM_DRAIN, "");
 	plain(32, "destroy the stream", VIRTIO_VIDEO_CMD_STREAM_DESTROY,
-	      "1e000000 18000000 00020000 07000000 5a00000000000000 01000000 00000000"
+	      "1e000000 18000000 02020000 07000000 5a00000000000000 01000000 00000000"
 	      "1f000000 08000000 00020000 07000000"
 	      "20000000 08000000 00020000 07000000");
 	plain(33, "destroy the stream again", VIRTIO_VIDEO_CMD_STREAM_DESTROY,

@@ -189,7 +189,10 @@ static unsigned answers(uint32_t written, int *error)
 		CHECK(answer.length <= written - at);
 		switch (hdr.type) {
 		case VIRTIO_VIDEO_RESP_OK_NODATA:
-			CHECK(answer.length == 8 || answer.length == 24);
+			CHECK(answer.length == 8);
+			break;
+		case VIRTIO_VIDEO_RESP_OK_RESOURCE_QUEUE:
+			CHECK(answer.length == 24);
 			break;
 		case VIRTIO_VIDEO_RESP_OK_GET_PARAMS:
 			CHECK(answer.length == 120);

@@ -10,7 +10,7 @@ ghost use Rattle.model.specs.Answers.{bufferDone, parameters, wordBytes, bytesO
 ghost use Rattle.model.specs.Commands.{planes, parameterWords};
 ghost use Rattle.protocol.specs.QueueTypes.{queueTypeOf};
 ghost use Rattle.answer.specs.Answer.{answerTo, plainBytes, pairs, NumbersOf};
-use protocol::OK;
+use protocol::BUFFER_DONE;
 use protocol::PARAMETERS;
 use protocol::QueueType;
 
@@ -43,7 +43,7 @@ pub fn put_buffer(
     requires { ⌜ at + 32 ≤ length (now out) ⌝ }
     ensures { λ r. ⌜ ((q : Meant) → Wrote (now (out .entry)) (now (out .exit)) at r (bytesOf (answerTo ticket stream (bufferDone q timestamp flags) ∷ []))) ⌝ }
 {
-    put_words(out, at, ticket, 24, OK, stream);
+    put_words(out, at, ticket, 24, BUFFER_DONE, stream);
     field::put_u64(out, at + 16, timestamp);
     field::put_u32(out, at + 24, flags);
     field::put_u32(out, at + 28, 0);

@@ -42,7 +42,7 @@ wordBytes (v ∷ vs) = littleEndian 4 v ++ wordBytes vs
 -- the type of a response
 abbrev pub responseType : Response → ℕ
 responseType success = 0x0200
-responseType (bufferDone q ts flags) = 0x0200
+responseType (bufferDone q ts flags) = 0x0202
 responseType drainDone = 0x0200
 responseType (parameters ws) = 0x0203
 responseType (failure e) = code e

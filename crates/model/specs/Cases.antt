@@ -117,7 +117,7 @@ failsWith t code = t ∷ 8 ∷ code ∷ 7 ∷ []
 
 -- a buffer's, with a timestamp below 2^32
 abbrev pub bufferEnds : ℕ → ℕ → ℕ → List ℕ
-bufferEnds t ts flags = t ∷ 24 ∷ 0x0200 ∷ 7 ∷ ts ∷ 0 ∷ flags ∷ 0 ∷ []
+bufferEnds t ts flags = t ∷ 24 ∷ 0x0202 ∷ 7 ∷ ts ∷ 0 ∷ flags ∷ 0 ∷ []
 
 -- the input queue's parameters with that size and rate 0
 abbrev pub showsSize : ℕ → ℕ → ℕ → List ℕ

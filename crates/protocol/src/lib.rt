@@ -25,8 +25,10 @@ pub const HEADER: usize = 8;
 
 pub const ANSWER_ROOM: usize = 1056;
 
-// The types of answers: plain success, which a buffer's answer has too, and the answer to a get.
+// The types of answers: plain success, which a drain's answer has too, a buffer's answer, and the answer to a get.
 pub const OK: u32 = 0x0200;
+
+pub const BUFFER_DONE: u32 = 0x0202;
 
 pub const PARAMETERS: u32 = 0x0203;
 

@@ -66,7 +66,7 @@ impl Response {
         let stream = word(4);
         match (word(0), bytes.len()) {
             (wire::RESP_OK_NODATA, 8) => Some(Response::Done { stream }),
-            (wire::RESP_OK_NODATA, 24) => Some(Response::Buffer {
+            (wire::RESP_OK_RESOURCE_QUEUE, 24) => Some(Response::Buffer {
                 stream,
                 timestamp: u64::from(word(8)) | u64::from(word(12)) << 32,
                 flags: word(16),

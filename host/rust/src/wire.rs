@@ -37,8 +37,10 @@ pub const CMD_GET_CONTROL: u32 = 0x010B;
 /// Command of 16 bytes or more, answered with [`RESP_ERR_UNSUPPORTED_CONTROL`].
 pub const CMD_SET_CONTROL: u32 = 0x010C;
 
-/// Success: 8 bytes, or the 24 of a buffer's answer.
+/// Success, also of a drain, 8 bytes.
 pub const RESP_OK_NODATA: u32 = 0x0200;
+/// Answer to a buffer, finished or stopped, 24 bytes.
+pub const RESP_OK_RESOURCE_QUEUE: u32 = 0x0202;
 /// Success of [`CMD_GET_PARAMS`], 120 bytes.
 pub const RESP_OK_GET_PARAMS: u32 = 0x0203;
 /// Error: not now, or no such command.

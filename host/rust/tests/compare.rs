@@ -194,7 +194,7 @@ impl<C: Core> Run<'_, C> {
         let mut room = Room::new(&mut self.generator, false);
         let done = self.compare(table, Some(device), act, &mut room)?;
         self.coverage.count(act, &done, edge);
-        self.coverage.count_depth(device, done.written.len(), table.len() - WORDS);
+        self.coverage.count_depth(device, &done.written, table.len() - WORDS);
         Ok(())
     }
 

@@ -124,7 +124,7 @@ fn stream_of(frame: &[u8]) -> u32 {
 }
 
 fn buffer(ticket: u32, stream: u32, timestamp: u64, flags: u32) -> (u32, Vec<u32>) {
-    (ticket, vec![0x0200, stream, timestamp as u32, (timestamp >> 32) as u32, flags, 0])
+    (ticket, vec![0x0202, stream, timestamp as u32, (timestamp >> 32) as u32, flags, 0])
 }
 
 /// Makes a test of a case for the independent device and for the system under test.
@@ -488,6 +488,37 @@ cases! {
         assert_eq!(host.finish(7, OUTPUT, 1, 3, 5), Ok(vec![buffer(2, 7, 5, 3)]));
         assert_eq!(host.finish(7, INPUT, 1, 1, 5), Ok(vec![buffer(1, 7, 0, 1)]));
         assert_eq!(host.drained(7), ok(3, 7));
+    }
+
+    /// A buffer is answered with 0x0202, finished or stopped; a drain, reported or stopped, with
+    /// 0x0200, and so is plain success.
+    fn types_of_answers(host: with_stream) {
+        host.resource(INPUT, 1);
+        host.resource(OUTPUT, 1);
+        host.queue(10, INPUT, 1, 5);
+        host.queue(11, OUTPUT, 1, 6);
+        host.drain(12);
+        let input = vec![0x0202, 7, 5, 0, 1, 0];
+        assert_eq!(host.finish(7, INPUT, 1, 1, 8), Ok(vec![(10, input)]));
+        let output = vec![0x0202, 7, 8, 0, 2, 0];
+        assert_eq!(host.finish(7, OUTPUT, 1, 2, 8), Ok(vec![(11, output)]));
+        assert_eq!(host.drained(7), Ok(vec![(12, vec![0x0200, 7])]));
+
+        host.queue(13, INPUT, 1, 5);
+        host.queue(14, OUTPUT, 1, 6);
+        host.drain(15);
+        let (input, output) = (vec![0x0202, 7, 5, 0, 1, 0], vec![0x0202, 7, 6, 0, 1, 0]);
+        let plain = vec![0x0200, 7];
+        let cleared = vec![(13, input.clone()), (15, plain.clone()), (16, plain.clone())];
+        assert_eq!(host.command(16, &on_queue(QUEUE_CLEAR, 7, INPUT)), Ok(cleared));
+        let cleared = vec![(14, output.clone()), (17, plain.clone())];
+        assert_eq!(host.command(17, &on_queue(QUEUE_CLEAR, 7, OUTPUT)), Ok(cleared));
+
+        host.queue(18, INPUT, 1, 5);
+        host.queue(19, OUTPUT, 1, 6);
+        host.drain(20);
+        let destroyed = vec![(18, input), (19, output), (20, plain.clone()), (21, plain)];
+        assert_eq!(host.command(21, &frame(STREAM_DESTROY, 7, 8)), Ok(destroyed));
     }
 
     /// Inputs, outputs, the drain and the command itself: 1,056 bytes.

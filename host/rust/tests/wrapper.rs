@@ -260,6 +260,7 @@ fn other_bytes_are_no_response() {
         assert_eq!(Response::from_bytes(&vec![0; length]), None);
     }
     assert_eq!(Response::from_bytes(&[0, 2, 0, 0, 7, 0, 0, 0, 0]), None);
+    assert_eq!(Response::from_bytes(&[2, 2, 0, 0, 7, 0, 0, 0]), None);
     assert_eq!(Response::from_bytes(&[3, 2, 0, 0, 7, 0, 0, 0]), None);
     assert_eq!(Response::from_bytes(&[6, 3, 0, 0, 7, 0, 0, 0]), None);
 }

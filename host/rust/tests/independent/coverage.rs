@@ -90,7 +90,7 @@ pub const TABLE_SHORT: Why = "table under 4,096 words";
 pub const TABLE_NOT_VALID: Why = "table not valid";
 
 /// What success answers: 0 where nothing is answered to the step itself.
-const SUCCESSES: &[(u32, u32)] = &[
+pub const SUCCESSES: &[(u32, u32)] = &[
     (STREAM_CREATE, OK_NODATA),
     (STREAM_DESTROY, OK_NODATA),
     (STREAM_DRAIN, 0),
@@ -102,6 +102,17 @@ const SUCCESSES: &[(u32, u32)] = &[
     (SET_PARAMS, OK_NODATA),
     (FINISH, 0),
     (DRAINED, 0),
+];
+
+/// Types of the answers to what was owed: those of buffers, finished or stopped, and of drains,
+/// reported or stopped.
+pub const OWED: &[(u32, u32)] = &[
+    (FINISH, OK_RESOURCE_QUEUE),
+    (QUEUE_CLEAR, OK_RESOURCE_QUEUE),
+    (STREAM_DESTROY, OK_RESOURCE_QUEUE),
+    (DRAINED, OK_NODATA),
+    (QUEUE_CLEAR, OK_NODATA),
+    (STREAM_DESTROY, OK_NODATA),
 ];
 
 /// Edges and the answer that shows their side; 0 where success answers nothing.
@@ -175,6 +186,8 @@ pub struct Coverage {
     pub steps: u64,
     /// By kind of step, refusal and the code answered to the step itself.
     outcomes: BTreeMap<(u32, u32, u32), u64>,
+    /// Answers to what was owed, by kind of step and type.
+    owed: BTreeMap<(u32, u32), u64>,
     reasons: BTreeMap<(u32, Why), u64>,
     edges: BTreeMap<(Why, u32), u64>,
     depths: BTreeMap<Why, u64>,
@@ -185,10 +198,15 @@ impl Coverage {
     pub fn count(&mut self, act: &Act, done: &Done, edge: Option<Why>) {
         self.steps += 1;
         let kind = kind_of(act, done.refusal);
+        let mut owed = types(&done.written);
+        // A command's own answer is its last.
         let code = match act {
-            Act::Command { .. } => own_code(&done.written),
+            Act::Command { .. } => owed.pop().unwrap_or(0),
             _ => 0,
         };
+        for code in owed {
+            *self.owed.entry((kind, code)).or_default() += 1;
+        }
         *self.outcomes.entry((kind, done.refusal, code)).or_default() += 1;
         if let Some(why) = done.why {
             *self.reasons.entry((kind, why)).or_default() += 1;
@@ -199,7 +217,7 @@ impl Coverage {
     }
 
     /// Counts the states that the records are in after a step.
-    pub fn count_depth(&mut self, device: &Device, written: usize, behind: usize) {
+    pub fn count_depth(&mut self, device: &Device, written: &[u8], behind: usize) {
         let mut queued_in_table = 0;
         let mut met = [false; DEPTHS.len()];
         let live = device.places.iter().flatten().count();
@@ -233,10 +251,9 @@ impl Coverage {
             queued_in_table += queued_in_stream;
         }
         met[4] = queued_in_table >= 100;
-        met[9] = written == ROOM;
-        // Each buffer has 32 bytes, the drain and the command itself 16 each; 128 are also those of
-        // parameters.
-        met[10] = written > 32 && written.is_multiple_of(32) && written != 128;
+        met[9] = written.len() == ROOM;
+        // The last two are then the drain's and the command's own.
+        met[10] = types(written).ends_with(&[OK_RESOURCE_QUEUE, OK_NODATA, OK_NODATA]);
         met[11] = behind > 0;
         for (depth, met) in DEPTHS.iter().zip(met) {
             *self.depths.entry(depth).or_default() += u64::from(met);
@@ -259,6 +276,10 @@ impl Coverage {
             let count = self.outcomes.get(&(kind, 0, code)).copied().unwrap_or(0);
             ask(count, format!("{}, success", name(kind)));
         }
+        for &(kind, code) in OWED {
+            let count = self.owed.get(&(kind, code)).copied().unwrap_or(0);
+            ask(count, format!("{}, owed ({})", name(kind), number_name(code)));
+        }
         for (edge, code) in wanted_edges() {
             let count = self.edges.get(&(edge, code)).copied().unwrap_or(0);
             ask(count, format!("{edge} ({})", number_name(code)));
@@ -266,17 +287,20 @@ impl Coverage {
         for depth in DEPTHS {
             ask(self.depths.get(depth).copied().unwrap_or(0), depth.to_string());
         }
+        let mut deny = |kind: u32, number: u32| {
+            let (kind, number) = (name(kind), number_name(number));
+            complaints.push(format!("{kind}: {number} cannot occur by document 01"));
+        };
         for &(kind, refusal, code) in self.outcomes.keys() {
             let number = if refusal != 0 { refusal } else { code };
             let success = SUCCESSES.contains(&(kind, code)) && refusal == 0;
             let known = self.wanted_reasons().any(|(of, _, given)| of == kind && given == number);
             if !success && !known {
-                complaints.push(format!(
-                    "{}: {} cannot occur by document 01",
-                    name(kind),
-                    number_name(number)
-                ));
+                deny(kind, number);
             }
+        }
+        for &(kind, code) in self.owed.keys().filter(|owed| !OWED.contains(owed)) {
+            deny(kind, code);
         }
         complaints
     }
@@ -293,7 +317,8 @@ fn wanted_edges() -> impl Iterator<Item = (Why, u32)> {
     EDGES.iter().copied().chain(BAD_TEXT.iter().map(|&(edge, _)| (edge, INVALID_PARAMETER)))
 }
 
-/// Prints three tables: outcomes by kind of step, reasons, and edges and depths.
+/// Prints four tables: outcomes by kind of step, answers to what was owed, reasons, and edges and
+/// depths.
 impl fmt::Display for Coverage {
     fn fmt(&self, out: &mut fmt::Formatter) -> fmt::Result {
         writeln!(out, "{} steps", self.steps)?;
@@ -306,7 +331,12 @@ impl fmt::Display for Coverage {
             let number = if refusal != 0 { refusal } else { code };
             write!(out, " {} {count:<7}", number_name(number))?;
         }
-        writeln!(out, "\n\nBy reason:")?;
+        writeln!(out, "\n\nTo what was owed:")?;
+        for &(kind, code) in OWED {
+            let count = self.owed.get(&(kind, code)).copied().unwrap_or(0);
+            writeln!(out, "{count:>8}  {} {}", number_name(code), name(kind))?;
+        }
+        writeln!(out, "\nBy reason:")?;
         for (kind, why, number) in self.wanted_reasons() {
             let count = self.reasons.get(&(kind, why)).copied().unwrap_or(0);
             writeln!(out, "{count:>8}  {} {}, {why}", number_name(number), name(kind))?;
@@ -339,15 +369,15 @@ fn kind_of(act: &Act, refusal: u32) -> u32 {
     }
 }
 
-/// The code of the last answer, which is the command's own.
-fn own_code(mut answers: &[u8]) -> u32 {
-    let mut code = 0;
+/// The type of each answer.
+fn types(mut answers: &[u8]) -> Vec<u32> {
+    let mut types = Vec::new();
     while let Some((head, rest)) = answers.split_first_chunk::<8>() {
         let count = u32::from_le_bytes([head[4], head[5], head[6], head[7]]) as usize;
-        code = rest.first_chunk().map_or(0, |&code| u32::from_le_bytes(code));
+        types.push(rest.first_chunk().map_or(0, |&code| u32::from_le_bytes(code)));
         answers = &rest[count.min(rest.len())..];
     }
-    code
+    types
 }
 
 pub fn name(kind: u32) -> &'static str {

@@ -1,5 +1,5 @@
-//! The whole device as records, written from document 01 (the scope) and the structs of the draft
-//! alone, in their order and words.
+//! The whole device as records, written from documents 01 (the scope) and 02 and the structs of the
+//! draft alone, in their order and words.
 //!
 //! It knows nothing of the table's words and shares nothing with the core. Each test of a step
 //! carries 01's reason, so that a run can count which of them were met; `slip` makes a wrong
@@ -170,13 +170,13 @@ impl Device {
             return refused(hit);
         }
         let number = word(frame, 4);
-        let mut answers = Answers(Vec::new());
+        let mut answers = Answers::new(self.slip, word(frame, 0));
         let served = self.serve(ticket, number, frame, &mut answers);
         if let Err(hit) = served {
             // "An error answer is 8 bytes: code, stream number."
             answers.put(ticket, &[hit.number, number]);
         }
-        Done { refusal: 0, written: answers.0, why: served.err().map(|hit| hit.why) }
+        Done { refusal: 0, written: answers.bytes, why: served.err().map(|hit| hit.why) }
     }
 
     /// The command itself, "first hit answers: unknown type or 0x0100; wrong length; stream not
@@ -224,7 +224,7 @@ impl Device {
         )?;
         if create {
             self.stream_create(number, place.is_some(), frame)?;
-            answers.plain(ticket, number);
+            answers.success(ticket, number);
             return Ok(());
         }
         let Some(place) = place else { return Ok(()) };
@@ -248,8 +248,7 @@ impl Device {
             SET_PARAMS => stream.set_params(slip, frame)?,
             _ => {}
         }
-        // "Plain success is 0x0200 and the stream number."
-        answers.plain(ticket, number);
+        answers.success(ticket, number);
         Ok(())
     }
 
@@ -323,7 +322,7 @@ impl Device {
         if let Err(hit) = first_hit(slip, FINISH, &tests) {
             return refused(hit);
         }
-        let mut answers = Answers(Vec::new());
+        let mut answers = Answers::new(slip, FINISH);
         if let Some(resource) = queued {
             if let State::Queued { ticket, timestamp: own } = resource.state {
                 // "An input's timestamp is its own, an output's the report's."
@@ -333,7 +332,7 @@ impl Device {
                     _ if input => own,
                     _ => report.timestamp,
                 };
-                answers.buffer(slip, ticket, report.stream, timestamp, report.flags);
+                answers.buffer(ticket, report.stream, report.queue_type, timestamp, report.flags);
                 resource.state =
                     if slips(Slip::FinishedIsCreated) { State::Created } else { State::Dequeued };
             }
@@ -344,7 +343,7 @@ impl Device {
                 stream.stop_drain(&mut answers);
             }
         }
-        Done { refusal: 0, written: answers.0, why: None }
+        Done { refusal: 0, written: answers.bytes, why: None }
     }
 
     /// A drained report: refused with 5 for "no such stream, no drain owed, or an input still
@@ -366,7 +365,7 @@ impl Device {
         if let Err(hit) = first_hit(slip, DRAINED, &tests) {
             return refused(hit);
         }
-        let mut answers = Answers(Vec::new());
+        let mut answers = Answers::new(slip, DRAINED);
         if let Some(stream) = stream {
             let pending = stream.drain;
             stream.stop_drain(&mut answers);
@@ -374,7 +373,7 @@ impl Device {
                 stream.drain = pending;
             }
         }
-        Done { refusal: 0, written: answers.0, why: None }
+        Done { refusal: 0, written: answers.bytes, why: None }
     }
 
     fn place_of(&self, number: u32) -> Option<usize> {
@@ -430,10 +429,10 @@ impl Stream {
         self.stop_drain(answers);
     }
 
-    /// "A drain's answer is the plain 8 bytes even when stopped."
+    /// Answers an owed drain, which is then owed no more.
     fn stop_drain(&mut self, answers: &mut Answers) {
         if let Some(ticket) = self.drain.take() {
-            answers.plain(ticket, self.number);
+            answers.drain(ticket, self.number);
         }
     }
 
@@ -584,7 +583,7 @@ impl Stream {
         queue.clear_in_progress = true;
         queue.stop(slip, number, answers);
         queue.clear_in_progress = slips(Slip::ClearKeepsMark) && mark;
-        let kept = slips(Slip::InputClearNeedsBuffers) && answers.0.is_empty();
+        let kept = slips(Slip::InputClearNeedsBuffers) && answers.bytes.is_empty();
         if (input || slips(Slip::OutputClearEndsDrain)) && !kept {
             self.stop_drain(answers);
         }
@@ -680,7 +679,7 @@ impl Queue {
     /// "Stopped by clear or destroy: own timestamp, flags 1", "by ascending resource number". The
     /// buffers are then Dequeued.
     fn stop(&mut self, slip: Option<Slip>, stream: u32, answers: &mut Answers) {
-        let output = self.parameters.queue_type == OUTPUT;
+        let queue_type = self.parameters.queue_type;
         let mut queued: Vec<&mut Resource> =
             self.resources.iter_mut().flatten().filter(|resource| resource.is_queued()).collect();
         match slip {
@@ -693,8 +692,9 @@ impl Queue {
         for resource in queued {
             if let State::Queued { ticket, timestamp } = resource.state {
                 let flags = if slip == Some(Slip::StoppedWithoutErr) { 0 } else { ERR };
-                let zero = slip == Some(Slip::StoppedOutputsOfTimeZero) && output;
-                answers.buffer(slip, ticket, stream, if zero { 0 } else { timestamp }, flags);
+                let zero = slip == Some(Slip::StoppedOutputsOfTimeZero) && queue_type == OUTPUT;
+                let timestamp = if zero { 0 } else { timestamp };
+                answers.buffer(ticket, stream, queue_type, timestamp, flags);
                 resource.state = State::Dequeued;
                 if slip == Some(Slip::StoppedIsCreated) {
                     resource.state = State::Created;
@@ -781,26 +781,55 @@ impl Parameters {
 
 /// Answers, "each as ticket, byte count (both 4 bytes) and response. All numbers are
 /// little-endian."
-struct Answers(Vec<u8>);
+struct Answers {
+    slip: Option<Slip>,
+    /// The kind of step that writes them.
+    kind: u32,
+    bytes: Vec<u8>,
+}
 
 impl Answers {
+    fn new(slip: Option<Slip>, kind: u32) -> Answers {
+        Answers { slip, kind, bytes: Vec::new() }
+    }
+
     fn put(&mut self, ticket: u32, response: &[u32]) {
         let count = 4 * response.len() as u32;
-        self.0.reserve(8 + count as usize);
+        self.bytes.reserve(8 + count as usize);
         for word in [ticket, count].iter().chain(response) {
-            self.0.extend_from_slice(&word.to_le_bytes());
+            self.bytes.extend_from_slice(&word.to_le_bytes());
         }
     }
 
-    fn plain(&mut self, ticket: u32, stream: u32) {
-        self.put(ticket, &[OK_NODATA, stream]);
+    /// "Plain success is 0x0200 and the stream number."
+    fn success(&mut self, ticket: u32, stream: u32) {
+        self.plain(Slip::SuccessOfBufferType(self.kind), ticket, stream);
     }
 
-    /// "A buffer's answer is 24 bytes: 0x0200, stream, timestamp, flags, size 0."
-    fn buffer(&mut self, slip: Option<Slip>, ticket: u32, stream: u32, timestamp: u64, flags: u32) {
-        let own_type = slip == Some(Slip::BufferAnswerOfOwnType);
-        let code = if own_type { OK_RESOURCE_QUEUE } else { OK_NODATA };
-        self.put(ticket, &[code, stream, timestamp as u32, (timestamp >> 32) as u32, flags, 0]);
+    /// "A drain's answer is the plain 8 bytes even when stopped."
+    fn drain(&mut self, ticket: u32, stream: u32) {
+        self.plain(Slip::DrainOfBufferType(self.kind), ticket, stream);
+    }
+
+    fn plain(&mut self, slip: Slip, ticket: u32, stream: u32) {
+        let code = if self.slip == Some(slip) { OK_RESOURCE_QUEUE } else { OK_NODATA };
+        self.put(ticket, &[code, stream]);
+    }
+
+    /// "A buffer's answer is 24 bytes: 0x0202, stream, timestamp, flags, size 0", "finished or
+    /// stopped".
+    fn buffer(&mut self, ticket: u32, stream: u32, queue_type: u32, timestamp: u64, flags: u32) {
+        let plain = match self.slip {
+            Some(Slip::BufferOfPlainType(kind)) => kind == self.kind,
+            Some(Slip::InputOfPlainType) => queue_type == INPUT,
+            Some(Slip::OutputOfPlainType) => queue_type == OUTPUT,
+            Some(Slip::ErrOfPlainType) => flags & ERR != 0,
+            _ => false,
+        };
+        let code = if plain { OK_NODATA } else { OK_RESOURCE_QUEUE };
+        let response = [code, stream, timestamp as u32, (timestamp >> 32) as u32, flags, 0];
+        let words = if self.slip == Some(Slip::BufferWithoutSize) { 5 } else { 6 };
+        self.put(ticket, &response[..words]);
     }
 }
 

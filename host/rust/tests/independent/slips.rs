@@ -1,7 +1,7 @@
 //! Slips: wrong variants of the independent device. The comparison has to catch every one of them,
 //! else it is too weak.
 
-use super::coverage::{REASONS, UNKNOWN};
+use super::coverage::{OWED, REASONS, SUCCESSES, UNKNOWN};
 use super::device::*;
 use super::layout::Broken;
 
@@ -17,6 +17,14 @@ pub enum Slip {
     Last(u32, Why),
     /// The test gives this number.
     Gives(u32, Why, u32),
+
+    // Of the types of answers, each by the kind of step that writes it.
+    /// Buffers, finished or stopped, are answered with 0x0200.
+    BufferOfPlainType(u32),
+    /// A drain, reported or stopped, is answered with 0x0202.
+    DrainOfBufferType(u32),
+    /// Plain success is 0x0202.
+    SuccessOfBufferType(u32),
 
     // Of the commands and reports.
     /// 2^32 + 1 entries pass as 1.
@@ -83,8 +91,14 @@ pub enum Slip {
     MarkOfEitherQueue,
     /// A query of a control may have more than 16 bytes.
     LongControlQuery,
-    /// Buffers are answered with 0x0202.
-    BufferAnswerOfOwnType,
+    /// Inputs are answered with 0x0200.
+    InputOfPlainType,
+    /// Outputs are answered with 0x0200.
+    OutputOfPlainType,
+    /// Buffers with ERR are answered with 0x0200.
+    ErrOfPlainType,
+    /// A buffer's answer has no size.
+    BufferWithoutSize,
     /// Destroy all ends a drain.
     DestroyAllEndsDrain,
     /// The last input's finish ends a drain.
@@ -136,8 +150,8 @@ impl Slip {
     }
 }
 
-/// The slips of single names; those of the lists and of the rules are made from the tables of
-/// reasons and rules.
+/// The slips of single names; those of the lists, of the types of answers and of the rules are made
+/// from the tables of reasons, answers and rules.
 pub const NAMED: &[Slip] = &[
     Slip::EntryCountsIn32Bits,
     Slip::CountsBehindPlanes,
@@ -171,7 +185,10 @@ pub const NAMED: &[Slip] = &[
     Slip::MarkStopsDrain,
     Slip::MarkOfEitherQueue,
     Slip::LongControlQuery,
-    Slip::BufferAnswerOfOwnType,
+    Slip::InputOfPlainType,
+    Slip::OutputOfPlainType,
+    Slip::ErrOfPlainType,
+    Slip::BufferWithoutSize,
     Slip::DestroyAllEndsDrain,
     Slip::LastInputEndsDrain,
     Slip::EosEndsDrain,
@@ -191,7 +208,7 @@ pub const NAMED: &[Slip] = &[
 ];
 
 /// Each rule of a valid table left out, each test left out, some in the wrong order or with a wrong
-/// number, and the named ones.
+/// number, each answer of 0x0200 or 0x0202 with the other of them, and the named ones.
 pub fn all() -> Vec<Slip> {
     let mut slips: Vec<Slip> = Broken::ALL.into_iter().map(Slip::Taken).collect();
     // Two reasons are left out: the first test of all is no list, and a drained report for no
@@ -224,6 +241,12 @@ pub fn all() -> Vec<Slip> {
         Slip::Gives(STREAM_DRAIN, "already draining", INVALID_PARAMETER),
         Slip::Gives(FINISH, "EOS with no drain owed", 5),
     ]);
+    slips.extend(OWED.iter().map(|&(kind, code)| match code {
+        OK_RESOURCE_QUEUE => Slip::BufferOfPlainType(kind),
+        _ => Slip::DrainOfBufferType(kind),
+    }));
+    let plain = SUCCESSES.iter().filter(|&&(_, code)| code == OK_NODATA);
+    slips.extend(plain.map(|&(kind, _)| Slip::SuccessOfBufferType(kind)));
     slips.extend(NAMED);
     slips
 }
