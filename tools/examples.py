@@ -1,7 +1,7 @@
 #!/usr/bin/env python3
 """Writes examples/: the logs and what they are to be answered with.
 
-Each line of a log stands here with its answer, as document 01 has it: nothing is computed but the
+Each line of a log stands here with its answer, as documents 01 and 02 have it: nothing is computed but the
 digits. A command's ticket is the number of its line unless said otherwise, so that answers are
 easily found. With --tables it prints the tables of docs/LOG.md instead.
 """

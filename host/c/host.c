@@ -74,6 +74,7 @@ static void show_response(const uint8_t *bytes, size_t length)
 
 	memcpy(&hdr, bytes, sizeof(hdr));
 	if (length != length_of(hdr.type)) {
+		printf("\n");
 		wrong("a response of another length than its type has");
 		return;
 	}

@@ -84,18 +84,18 @@ unfolding pairs
 output-planes q e w h = rw (e, w, h)
 
 -- 28 words in either queue, 120 bytes with the answer's type and the stream number
-words-answer : (ticket stream : ℕ) (ws : List ℕ) → length ws ≡ 28 → wordBytes (ticket ∷ 120 ∷ 0x0203 ∷ stream ∷ ws) ≡ bytesOf (answerTo ticket stream (parameters ws) ∷ [])
+words-answer : (ticket stream : ℕ) (ws : List ℕ) → length ws ≡ 28 → wordBytes (ticket ∷ 120 ∷ responseType (parameters ws) ∷ stream ∷ ws) ≡ bytesOf (answerTo ticket stream (parameters ws) ∷ [])
 unfolding responseBytes littleEndian
 words-answer ticket stream ws h =
-    let n : length (wordBytes (0x0203 ∷ stream ∷ ws)) ≡ 120 = length-words (0x0203 ∷ stream ∷ ws) ∙ (omega arith) in
+    let n : length (wordBytes ws) ≡ 112 = length-words ws ∙ (omega arith) in
     rw (append-nil, n)
 
 pub parameters-answer : {queue format width height rate : ℕ} (ticket stream : ℕ) (q : QueueType) (b : Stream) → queue ≡ queueNumber q → NumbersOf q b format width height rate
-    → wordBytes (ticket ∷ 120 ∷ 0x0203 ∷ stream ∷ queue ∷ format ∷ width ∷ height ∷ 1 ∷ 16 ∷ 0 ∷ 0 ∷ width ∷ height ∷ rate ∷ planes q (queueOf q b)) ≡ bytesOf (answerTo ticket stream (parameters (parameterWords q b)) ∷ [])
+    → wordBytes (ticket ∷ 120 ∷ responseType (parameters (parameterWords q b)) ∷ stream ∷ queue ∷ format ∷ width ∷ height ∷ 1 ∷ 16 ∷ 0 ∷ 0 ∷ width ∷ height ∷ rate ∷ planes q (queueOf q b)) ≡ bytesOf (answerTo ticket stream (parameters (parameterWords q b)) ∷ [])
 unfolding parameterWords
 parameters-answer ticket stream q b e s =
     rw (e, s .isFormat, s .isWidth, s .isHeight, s .isRate) (words-answer ticket stream (parameterWords q b) (length-parameters q b))
 
 pub parameters-length : (ticket stream : ℕ) (q : QueueType) (b : Stream) → length (bytesOf (answerTo ticket stream (parameters (parameterWords q b)) ∷ [])) ≡ 128
 parameters-length ticket stream q b =
-    rw (← (words-answer ticket stream (parameterWords q b) (length-parameters q b))) (length-words (ticket ∷ 120 ∷ 0x0203 ∷ stream ∷ parameterWords q b) ∙ (omega (arith, length-parameters q b)))
+    rw (← (words-answer ticket stream (parameterWords q b) (length-parameters q b))) (length-words (ticket ∷ 120 ∷ responseType (parameters (parameterWords q b)) ∷ stream ∷ parameterWords q b) ∙ (omega (arith, length-parameters q b)))

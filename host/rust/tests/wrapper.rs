@@ -261,6 +261,11 @@ fn other_bytes_are_no_response() {
     }
     assert_eq!(Response::from_bytes(&[0, 2, 0, 0, 7, 0, 0, 0, 0]), None);
     assert_eq!(Response::from_bytes(&[2, 2, 0, 0, 7, 0, 0, 0]), None);
+    // Of a buffer's length, but of another type.
+    for kind in [wire::RESP_OK_NODATA, wire::RESP_OK_GET_PARAMS, wire::RESP_ERR_OUT_OF_MEMORY] {
+        let bytes = [&kind.to_le_bytes()[..], &[0; 20]].concat();
+        assert_eq!(Response::from_bytes(&bytes), None);
+    }
     assert_eq!(Response::from_bytes(&[3, 2, 0, 0, 7, 0, 0, 0]), None);
     assert_eq!(Response::from_bytes(&[6, 3, 0, 0, 7, 0, 0, 0]), None);
 }

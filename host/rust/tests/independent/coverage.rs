@@ -289,7 +289,7 @@ impl Coverage {
         }
         let mut deny = |kind: u32, number: u32| {
             let (kind, number) = (name(kind), number_name(number));
-            complaints.push(format!("{kind}: {number} cannot occur by document 01"));
+            complaints.push(format!("{kind}: {number} cannot occur by documents 01 and 02"));
         };
         for &(kind, refusal, code) in self.outcomes.keys() {
             let number = if refusal != 0 { refusal } else { code };
