@@ -20,7 +20,7 @@ code invalidParameter = 0x0304
 code unsupportedControl = 0x0305
 
 -- plain success; a buffer of a queue with its timestamp and flags; a drain that ended; parameters in words; an error. A buffer's queue is
--- not written, and a drain's bytes are those of plain success: this keeps apart what the bytes do not.
+-- not written, and a drain's bytes are those of plain success: the constructors keep apart what the bytes do not.
 pub data Response : Type 0 where
   success : Response
   bufferDone : QueueType → (timestamp flags : ℕ) → Response
