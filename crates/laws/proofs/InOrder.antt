@@ -19,6 +19,17 @@ module _ {E A : Type 0} where
   tests-cases P fail (accept v) fails h = h
   tests-cases P fail (hit ⇒ e then ts) fails h = cond-elim P hit (λ _. fails e) (λ z. tests-cases P fail ts fails (h z))
 
+  -- what is given where no test hits
+  abbrev pub given : TestList E A → A
+  given (accept v) = v
+  given (hit ⇒ e then ts) = given ts
+
+  -- a property of each error and of that: it does not matter which tests there are
+  pub tests-all : (P : A → Type 0) (fail : E → A) (ts : TestList E A) → ((e : E) → P (fail e)) → P (given ts) → P (byTests fail ts)
+  unfolding byTests
+  tests-all P fail (accept v) fails h = h
+  tests-all P fail (hit ⇒ e then ts) fails h = cond-elim P hit (λ _. fails e) (λ _. tests-all P fail ts fails h)
+
 module _ {E A : Type 0} (fail : E → A) where
   -- no test, a test that hits, and one that does not
   pub tests-accept : (v : A) → byTests fail (accept v) ≡ v

@@ -12,7 +12,7 @@ use Rattle.laws.specs.Lists.{keep, anyOf, isEmpty, toList}
 use Rattle.laws.specs.Ascending.{insertBy}
 use Rattle.laws.proofs.Tests.{never}
 use Rattle.laws.proofs.Lists.{cond-elim, eqb-same, eqb-sym, keep-ascending, keep-const, none-is, any-append, empty-is, Each, each-map}
-use Rattle.laws.proofs.InOrder.{tests-cases}
+use Rattle.laws.proofs.InOrder.{tests-cases, tests-all}
 use Rattle.field.specs.Field.{field}
 use Rattle.model.specs.Device.{QueueType, input, output, queued, dequeued, Queue, Stream, newStream, queueOf, withQueue, withDrain, withSlots, Buffer, queuedIn, byResource, buffers, bufferOf, present, addResource, setState, freeAll}
 use Rattle.model.specs.Frames.{QueueCommand, createResource, queueResource, destroyAll, clear, getParameters, setParameters, LiveCommand, destroy, drain, control, toQueue, create, live, CommandRule, commands, ruleOf, wrongLength, queueNumber, queueNamed, codedFormat, resourceId, timestampSent}
@@ -354,8 +354,8 @@ module _ (n t : ℕ) (f : List ℕ) (b : Stream) (s : Sane (some b)) where
   resource-live : FitsLive 0x0104 (onLive (toQueue createResource) c b)
   unfolding onCreateResource
   resource-live =
-      in-queue 0x0104 createResource (λ q e. tests-cases (FitsLive 0x0104) (fail c) _ (bad 0x0104) (λ h₁ h₂ h₃ h₄ h₅ h₆ h₇.
-      let x = queueOf q b .slots in
+      in-queue 0x0104 createResource (λ q e. tests-all (FitsLive 0x0104) (fail c) _ (bad 0x0104)
+      (let x = queueOf q b .slots in
       quiet q (withSlots (addResource (resourceId f) x) (queueOf q b)) (queued-add (resourceId f) x)))
 
   freed-live : FitsLive 0x0106 (onLive (toQueue destroyAll) c b)
@@ -372,7 +372,7 @@ module _ (n t : ℕ) (f : List ℕ) (b : Stream) (s : Sane (some b)) where
 
   set-live : FitsLive 0x0109 (onLive (toQueue setParameters) c b)
   unfolding onSet
-  set-live = in-queue 0x0109 setParameters (λ q e. tests-cases (FitsLive 0x0109) (fail c) _ (bad 0x0109) (λ h₁ h₂ h₃ h₄. quiet q _ refl))
+  set-live = in-queue 0x0109 setParameters (λ q e. tests-all (FitsLive 0x0109) (fail c) _ (bad 0x0109) (quiet q _ refl))
 
   drain-live : FitsLive 0x0103 (onDrain c b)
   unfolding onDrain
@@ -390,8 +390,8 @@ new-pends format = λ i. record { queued = λ q. nothing q i; drains = [] }
 create-fits : (around : Surroundings) (n t : ℕ) (f : List ℕ) → FitsType 0x0101 n t f none (onCreate around (request n t none f))
 unfolding onCreate
 create-fits around n t f =
-    tests-cases (FitsType 0x0101 n t f none) (fail (request n t none f)) _ (λ e. fail-type 0x0101 n t f none e)
-    (λ h₁ h₂ h₃ h₄ h₅. quiet-fits n t (own (request n t none f) success) none (some (newStream (codedFormat f))) refl refl (new-pends (codedFormat f)))
+    tests-all (FitsType 0x0101 n t f none) (fail (request n t none f)) _ (λ e. fail-type 0x0101 n t f none e)
+    (quiet-fits n t (own (request n t none f) success) none (some (newStream (codedFormat f))) refl refl (new-pends (codedFormat f)))
 
 module _ (around : Surroundings) (n t : ℕ) (f : List ℕ) where
   abbrev OfRule : Option Stream → ℕ → Option CommandRule → Type 0

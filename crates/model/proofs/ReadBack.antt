@@ -14,7 +14,7 @@ use Rattle.laws.specs.Lists.{allOf}
 use Rattle.laws.proofs.Tests.{both, and-left, and-right}
 use Rattle.laws.proofs.Lists.{decide, all-append, all-map}
 use Rattle.laws.proofs.Ascending.{all-ascending}
-use Rattle.laws.proofs.InOrder.{tests-cases}
+use Rattle.laws.proofs.InOrder.{tests-all}
 use Rattle.field.specs.Field.{field, littleEndian}
 use Rattle.field.proofs.Laws.{field-after, field-back}
 use Rattle.model.specs.Numbers.{err}
@@ -174,16 +174,16 @@ module _ (c : Request) (t : u32 (c .ticket) ≡ true) where
 
   queue-readable : (k : QueueCommand) (b : Stream) (q : QueueType) → GoodStream b → GoodAnswers (onQueueOf k c b q)
   unfolding onCreateResource onQueue onDestroyAll onClear onGet onSet u32
-  queue-readable createResource b q g = tests-cases GoodAnswers (fail c) _ fail-readable (λ h₁ h₂ h₃ h₄ h₅ h₆ h₇. success-readable)
-  queue-readable queueResource b q g = tests-cases GoodAnswers (fail c) _ fail-readable (λ h₁ h₂ h₃ h₄ h₅. refl)
-  queue-readable destroyAll b q g = tests-cases GoodAnswers (fail c) _ fail-readable (λ h. success-readable)
+  queue-readable createResource b q g = tests-all GoodAnswers (fail c) _ fail-readable success-readable
+  queue-readable queueResource b q g = tests-all GoodAnswers (fail c) _ fail-readable refl
+  queue-readable destroyAll b q g = tests-all GoodAnswers (fail c) _ fail-readable success-readable
   queue-readable clear b q g =
       let n = c .stream in
       let d = drainAnswers n (drainEnded q b) in
       good-append (stoppedAnswers n q (buffers q b)) (d ++ own c success ∷ []) (stopped-readable n q b g)
       (good-append d (own c success ∷ []) (drain-good n (drainEnded q b) (ended-good q b g)) success-readable)
   queue-readable getParameters b q g = own-good c (parameters (parameterWords q b)) t (ap (λ k. u32 (8 + 4 * k)) (length-parameters q b))
-  queue-readable setParameters b q g = tests-cases GoodAnswers (fail c) _ fail-readable (λ h₁ h₂ h₃ h₄. success-readable)
+  queue-readable setParameters b q g = tests-all GoodAnswers (fail c) _ fail-readable success-readable
 
   destroy-readable : (b : Stream) → GoodStream b → GoodAnswers (onDestroy c b)
   unfolding onDestroy
@@ -198,13 +198,13 @@ module _ (c : Request) (t : u32 (c .ticket) ≡ true) where
 
   live-readable : (k : LiveCommand) (b : Stream) → GoodStream b → GoodAnswers (onLive k c b)
   unfolding onDrain
-  live-readable k b g = live-cases GoodAnswers c b fail-readable (destroy-readable b g) (tests-cases GoodAnswers (fail c) _ fail-readable (λ h. refl)) (λ j q. queue-readable j b q g) k
+  live-readable k b g = live-cases GoodAnswers c b fail-readable (destroy-readable b g) (tests-all GoodAnswers (fail c) _ fail-readable refl) (λ j q. queue-readable j b q g) k
 
   command-readable : (around : Surroundings) → GoodSelf (c .self) → GoodAnswers (onCommand around c)
   unfolding onCreate
   command-readable around g =
       command-cases GoodAnswers around c fail-readable
-      (λ e. tests-cases GoodAnswers (fail c) _ fail-readable (λ h₁ h₂ h₃ h₄ h₅. success-readable))
+      (λ e. tests-all GoodAnswers (fail c) _ fail-readable success-readable)
       (λ k b e. live-readable k b (subst GoodSelf e g))
 
 pub serve-answers : (around : Surroundings) (n : ℕ) (self : Option Stream) (a : Act) → GoodSelf self → goodAct a ≡ true

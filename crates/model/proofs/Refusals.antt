@@ -9,7 +9,7 @@ use lib.Dec.{eqb, ltb}
 use Rattle.laws.specs.Lists.{allOf}
 use Rattle.laws.proofs.Tests.{never, both}
 use Rattle.laws.proofs.Lists.{decide, cond-elim}
-use Rattle.laws.proofs.InOrder.{tests-cases}
+use Rattle.laws.proofs.InOrder.{tests-all}
 use Rattle.model.specs.Numbers.{tableWords, answerRoom, headerBytes}
 use Rattle.model.specs.Device.{QueueType, Stream, Device, fresh, recordOf}
 use Rattle.model.specs.Frames.{QueueCommand, createResource, queueResource, destroyAll, clear, getParameters, setParameters, LiveCommand, streamId}
@@ -28,21 +28,21 @@ NotRefused v = v .refusal ≡ 0
 
 queue-answers : (k : QueueCommand) (c : Request) (b : Stream) (q : QueueType) → NotRefused (onQueueOf k c b q)
 unfolding onCreateResource onQueue onDestroyAll onClear onGet onSet
-queue-answers createResource c b q = tests-cases NotRefused (fail c) _ (λ e. refl) (λ h₁ h₂ h₃ h₄ h₅ h₆ h₇. refl)
-queue-answers queueResource c b q = tests-cases NotRefused (fail c) _ (λ e. refl) (λ h₁ h₂ h₃ h₄ h₅. refl)
-queue-answers destroyAll c b q = tests-cases NotRefused (fail c) _ (λ e. refl) (λ h. refl)
+queue-answers createResource c b q = tests-all NotRefused (fail c) _ (λ e. refl) refl
+queue-answers queueResource c b q = tests-all NotRefused (fail c) _ (λ e. refl) refl
+queue-answers destroyAll c b q = tests-all NotRefused (fail c) _ (λ e. refl) refl
 queue-answers clear c b q = refl
 queue-answers getParameters c b q = refl
-queue-answers setParameters c b q = tests-cases NotRefused (fail c) _ (λ e. refl) (λ h₁ h₂ h₃ h₄. refl)
+queue-answers setParameters c b q = tests-all NotRefused (fail c) _ (λ e. refl) refl
 
 live-answers : (k : LiveCommand) (c : Request) (b : Stream) → NotRefused (onLive k c b)
 unfolding onDestroy onDrain
-live-answers k c b = live-cases NotRefused c b (λ e. refl) refl (tests-cases NotRefused (fail c) _ (λ e. refl) (λ h. refl)) (λ j q. queue-answers j c b q) k
+live-answers k c b = live-cases NotRefused c b (λ e. refl) refl (tests-all NotRefused (fail c) _ (λ e. refl) refl) (λ j q. queue-answers j c b q) k
 
 pub command-answers : (around : Surroundings) (c : Request) → NotRefused (onCommand around c)
 unfolding onCreate
 command-answers around c =
-    command-cases NotRefused around c (λ e. refl) (λ e. tests-cases NotRefused (fail c) _ (λ e. refl) (λ h₁ h₂ h₃ h₄ h₅. refl)) (λ k b e. live-answers k c b)
+    command-cases NotRefused around c (λ e. refl) (λ e. tests-all NotRefused (fail c) _ (λ e. refl) refl) (λ k b e. live-answers k c b)
 
 -- what holds of 0, of 4 to a command, of 5 and 6 to a finish and of 5 to a drained report holds of every step's own refusal
 module _ (Q : Act → ℕ → Type 0) (zero : (a : Act) → Q a 0) (four : (t : ℕ) (f : List ℕ) → Q (command t f) 4)

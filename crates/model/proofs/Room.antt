@@ -16,7 +16,7 @@ use Rattle.model.specs.Reports.{timestampOf}
 use Rattle.model.specs.Steps.{Act, command, finish, drained, serve, DeviceReply, around}
 use Rattle.model.specs.Promises.{FitsRoom}
 use Rattle.laws.proofs.Ascending.{length-ascending}
-use Rattle.laws.proofs.InOrder.{tests-cases}
+use Rattle.laws.proofs.InOrder.{tests-all}
 use Rattle.model.proofs.Origins.{live-cases, command-cases, finish-cases, drained-cases, step-cases}
 use Rattle.model.proofs.WellFormed.{GoodStream, GoodSelf, good-queue-of, well-record}
 use Rattle.model.proofs.ReadBack.{sizeOf, length-response, length-parameters}
@@ -67,9 +67,9 @@ fail-small c e = omega (arith, size-own c (failure e))
 
 queue-small : (k : QueueCommand) (c : Request) (b : Stream) (q : QueueType) → GoodStream b → InRoom (onQueueOf k c b q)
 unfolding onCreateResource onQueue onDestroyAll onClear onGet onSet
-queue-small createResource c b q g = tests-cases InRoom (fail c) _ (fail-small c) (λ h₁ h₂ h₃ h₄ h₅ h₆ h₇. success-small c)
-queue-small queueResource c b q g = tests-cases InRoom (fail c) _ (fail-small c) (λ h₁ h₂ h₃ h₄ h₅. omega arith)
-queue-small destroyAll c b q g = tests-cases InRoom (fail c) _ (fail-small c) (λ h. success-small c)
+queue-small createResource c b q g = tests-all InRoom (fail c) _ (fail-small c) (success-small c)
+queue-small queueResource c b q g = tests-all InRoom (fail c) _ (fail-small c) (omega arith)
+queue-small destroyAll c b q g = tests-all InRoom (fail c) _ (fail-small c) (success-small c)
 queue-small clear c b q g =
     let n = c .stream in
     let d = drainAnswers n (drainEnded q b) in
@@ -82,7 +82,7 @@ queue-small clear c b q g =
       size-own c success,
     )
 queue-small getParameters c b q g = omega (arith, size-own c (parameters (parameterWords q b)), length-parameters q b)
-queue-small setParameters c b q g = tests-cases InRoom (fail c) _ (fail-small c) (λ h₁ h₂ h₃ h₄. success-small c)
+queue-small setParameters c b q g = tests-all InRoom (fail c) _ (fail-small c) (success-small c)
 
 destroy-small : (c : Request) (b : Stream) → GoodStream b → InRoom (onDestroy c b)
 unfolding onDestroy
@@ -104,13 +104,13 @@ destroy-small c b g =
 
 live-fits : (k : LiveCommand) (c : Request) (b : Stream) → GoodStream b → InRoom (onLive k c b)
 unfolding onDrain
-live-fits k c b g = live-cases InRoom c b (fail-small c) (destroy-small c b g) (tests-cases InRoom (fail c) _ (fail-small c) (λ h. omega arith)) (λ j q. queue-small j c b q g) k
+live-fits k c b g = live-cases InRoom c b (fail-small c) (destroy-small c b g) (tests-all InRoom (fail c) _ (fail-small c) (omega arith)) (λ j q. queue-small j c b q g) k
 
 command-small : (around : Surroundings) (c : Request) → GoodSelf (c .self) → InRoom (onCommand around c)
 unfolding onCreate
 command-small around c g =
     command-cases InRoom around c (fail-small c)
-    (λ e. tests-cases InRoom (fail c) _ (fail-small c) (λ h₁ h₂ h₃ h₄ h₅. success-small c))
+    (λ e. tests-all InRoom (fail c) _ (fail-small c) (success-small c))
     (λ k b e. live-fits k c b (subst GoodSelf e g))
 
 serve-small : (around : Surroundings) (n : ℕ) (self : Option Stream) (a : Act) → GoodSelf self → InRoom (serve around n self a)

@@ -11,7 +11,7 @@ use Rattle.laws.specs.Tests.{within}
 use Rattle.laws.specs.Lists.{allOf, isNone}
 use Rattle.laws.proofs.Tests.{never, both, and-left, and-right}
 use Rattle.laws.proofs.Lists.{decide, cond-elim, eqb-sym}
-use Rattle.laws.proofs.InOrder.{tests-cases}
+use Rattle.laws.proofs.InOrder.{tests-cases, tests-all}
 use Rattle.field.specs.Field.{field}
 use Rattle.model.specs.Numbers.{streamPlaces, queueSlots, firstCoded, lastCoded, headerBytes}
 use Rattle.model.specs.Device.{QueueType, input, output, State, created, queued, dequeued, Slot, free, resource, Queue, Stream, Place, vacant, occupied, Device, newQueue, newStream, fresh, queueOf, withQueue, withDrain, withSlots, present, addResource, setState, stopped, stopAll, freeAll, recordOf, place, replace, install, putRecord}
@@ -220,10 +220,10 @@ module _ (c : Request) (b : Stream) (self : c .self ≡ some b) (g : GoodStream 
       tests-cases GoodNext (fail c) _ (λ e. same-queue) (λ h₁ h₂ h₃ h₄ h₅ h₆ h₇.
       good-slots q _ b g (slots-add (resourceId (c .frame)) (queueOf q b .slots) (word-u32 (c .frame) 12 m) h₆ ((good-queue-of q b g) .slots)))
   changed-good queueResource q =
-      tests-cases GoodNext (fail c) _ (λ e. same-queue) (λ h₁ h₂ h₃ h₄ h₅.
-      good-slots q _ b g (slots-set (resourceId (c .frame)) (queued (c .ticket) (timestampSent (c .frame))) (queueOf q b .slots)
+      tests-all GoodNext (fail c) _ (λ e. same-queue)
+      (good-slots q _ b g (slots-set (resourceId (c .frame)) (queued (c .ticket) (timestampSent (c .frame))) (queueOf q b .slots)
       (both t (field-u64 (c .frame) 16 m)) ((good-queue-of q b g) .slots)))
-  changed-good destroyAll q = tests-cases GoodNext (fail c) _ (λ e. same-queue) (λ h. good-slots q _ b g (slots-free (queueOf q b .slots) ((good-queue-of q b g) .slots)))
+  changed-good destroyAll q = tests-all GoodNext (fail c) _ (λ e. same-queue) (good-slots q _ b g (slots-free (queueOf q b .slots) ((good-queue-of q b g) .slots)))
   changed-good clear q = good-clear q b g
   changed-good getParameters q = same-queue
   changed-good setParameters q =
@@ -232,7 +232,7 @@ module _ (c : Request) (b : Stream) (self : c .self ≡ some b) (g : GoodStream 
 
   live-good : (k : LiveCommand) → GoodNext (onLive k c b)
   unfolding onDestroy onDrain
-  live-good = live-cases GoodNext c b (λ e. same-queue) tt (tests-cases GoodNext (fail c) _ (λ e. same-queue) (λ h. good-drain (some (c .ticket)) b g t)) changed-good
+  live-good = live-cases GoodNext c b (λ e. same-queue) tt (tests-all GoodNext (fail c) _ (λ e. same-queue) (good-drain (some (c .ticket)) b g t)) changed-good
 
 command-good : (around : Surroundings) (c : Request) → GoodSelf (c .self) → u32 (c .ticket) ≡ true → allOf u8 (c .frame) ≡ true → GoodNext (onCommand around c)
 unfolding onCreate
