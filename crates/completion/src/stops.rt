@@ -5,13 +5,12 @@ ghost use mathlib.Core.List.{List, [], _∷_};
 ghost use Prim.Native.Nat.{ℕ, _+_, _<_, _≤_};
 ghost use lib.ListN.{length};
 ghost use Rattle.laws.specs.Stores.{Wrote};
-ghost use Rattle.model.specs.Device.{QueueType as Meant, Queue, Stream, occupied, Buffer, withDrain, withSlots, queuedIn, byResource, buffers, stopAll};
+ghost use Rattle.model.specs.Device.{QueueType as Meant, Queue, Stream, occupied, Buffer, withDrain, queuedIn, byResource, buffers};
 ghost use Rattle.model.specs.Answers.{bytesOf};
 ghost use Rattle.model.specs.Commands.{stoppedAnswers, drainAnswers, onDestroy, drainEnded, drainLeft, onClear};
 ghost use Rattle.model.specs.WellFormed.{distinctSlots};
 ghost use Rattle.queue.specs.Words.{queueWords};
 ghost use Rattle.queue.specs.Search.{slotAt, ticketIn, timestampIn};
-ghost use Rattle.queue.specs.Changes.{markDropped};
 ghost use Rattle.table.specs.Blocks.{placeWords};
 ghost use Rattle.protocol.specs.QueueTypes.{queueTypeOf};
 ghost use Rattle.stream.specs.Replied.{BlockOf, requestTo, Replied};
@@ -57,7 +56,7 @@ fn clear_words(block: &mut [u32], queue: QueueType)
 {
     end_drain(block, queue);
     let at = table::queue_start(queue);
-    clear_slots(&mut block[at..at + QUEUE_WORDS]);
+    queue::stop_all(&mut block[at..at + QUEUE_WORDS]);
 }
 
 // Drops the drain that a clear of the queue ends.
@@ -69,15 +68,6 @@ fn end_drain(block: &mut [u32], queue: QueueType)
         return;
     };
     table::drop_drain(block);
-}
-
-// Makes the Queued buffers of a queue Dequeued, and drops its mark.
-fn clear_slots(q: &mut [u32])
-    requires { ⌜ length (now q) ≡ 84 ⌝ }
-    ensures { λ _. ⌜ ((Q : Queue) → now (q .entry) ≡ queueWords Q → now (q .exit) ≡ queueWords (markDropped (withSlots (stopAll (Q .slots)) Q))) ⌝ }
-{
-    queue::stop_all(q);
-    queue::drop_mark(q);
 }
 
 // 0x0102 destroy: all that waits is answered, then the command, and the block becomes vacant.

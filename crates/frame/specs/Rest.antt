@@ -1,6 +1,6 @@
 -- What is left of each command's tests behind a good frame: those of the stream's record, in the model's order. q is the queue that the frame
 -- names. A bridge between the code and the model: it need not be read to believe the contracts of the exported functions.
-use mathlib.Core.Bool.{not, _&&_}
+use mathlib.Core.Bool.{not}
 use mathlib.Core.Option.{some}
 use mathlib.Core.List.{[]}
 use Rattle.laws.specs.InOrder.{TestList, accept, _⇒_then_}
@@ -9,7 +9,7 @@ use Rattle.model.specs.Device.{QueueType, queued, Stream, newStream, queueOf, w
 use Rattle.model.specs.Frames.{codedFormat, resourceId, timestampSent, frameWidth, frameHeight, frameRate}
 use Rattle.model.specs.Answers.{ErrorCode, invalidOperation, outOfMemory, invalidResource}
 use Rattle.model.specs.Replies.{Reply, reply, Request}
-use Rattle.model.specs.Commands.{Surroundings, succeed, isInput, withParameters}
+use Rattle.model.specs.Commands.{Surroundings, succeed, inputDraining, withParameters}
 
 -- 0x0101
 abbrev pub restOfCreate : Surroundings → Request → TestList ErrorCode Reply
@@ -31,8 +31,7 @@ abbrev pub restOfQueue : Request → Stream → QueueType → TestList ErrorCode
 restOfQueue c b q =
     let r = resourceId (c .frame) in
     let s = queueOf q b .slots in
-    isInput q && not (isNone (b .draining)) ⇒ invalidOperation then
-    queueOf q b .clearing ⇒ invalidOperation then
+    inputDraining q b ⇒ invalidOperation then
     not (present r s) ⇒ invalidResource then
     not (isNone (bufferOf r (queuedIn s))) ⇒ invalidOperation then
     accept (reply [] (some (withQueue q (withSlots (setState r (queued (c .ticket) (timestampSent (c .frame))) s) (queueOf q b)) b)))

@@ -1,7 +1,7 @@
 -- Laws of tests in order.
 use mathlib.Core.Path.{_≡_, refl, _∙_}
 use mathlib.Core.Option.{none, some}
-use mathlib.Core.Bool.{Bool, true, false, not, _&&_, _||_}
+use mathlib.Core.Bool.{Bool, true, false, not, _&&_}
 use Prim.Native.Nat.{ℕ}
 use native.Mathlib.Omega.{arith}
 use Rattle.laws.specs.InOrder.{TestList, accept, _⇒_then_, byTests, firstHit}
@@ -44,12 +44,7 @@ module _ {E A : Type 0} (fail : E → A) where
   unfolding byTests
   tests-miss t e ts h = rw h
 
-  -- two tests for one error, two for their negations, and a test behind two negations
-  pub tests-either : (s t : Bool) (e : E) (ts : TestList E A) → byTests fail (s ⇒ e then t ⇒ e then ts) ≡ byTests fail (s || t ⇒ e then ts)
-  unfolding byTests
-  tests-either true t e ts = refl
-  tests-either false t e ts = refl
-
+  -- two negated tests for one error, and a test behind two negations
   pub tests-both : (e : E) (a b : Bool) (us ts : TestList E A) → byTests fail us ≡ byTests fail (not b ⇒ e then ts)
       → byTests fail (not a ⇒ e then us) ≡ byTests fail (not (a && b) ⇒ e then ts)
   unfolding byTests

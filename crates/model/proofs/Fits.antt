@@ -332,11 +332,11 @@ module _ (n t : ℕ) (f : List ℕ) (b : Stream) (s : Sane (some b)) where
   queued-live : FitsLive 0x0105 (onLive (toQueue queueResource) c b)
   unfolding onQueue
   queued-live =
-      in-queue 0x0105 queueResource (λ q e. tests-cases (FitsLive 0x0105) (fail c) _ (bad 0x0105) (λ h₁ h₂ h₃ h₄ h₅.
+      in-queue 0x0105 queueResource (λ q e. tests-cases (FitsLive 0x0105) (fail c) _ (bad 0x0105) (λ h₁ h₂ h₃ h₄.
       subst (λ (x : ℕ). Fits (λ w. false) (some (toBuffer x (resourceId f) (timestampSent f))) n t (me t true) (some b)
       (reply [] (some (withQueue q (withSlots (setState (resourceId f) (queued t (timestampSent f)) (queueOf q b .slots)) (queueOf q b)) b))))
       (sym (named-number (field 4 f 8) q e))
-      (queue-fits q n t (resourceId f) (timestampSent f) b s (not-false _ h₄) (none-is _ (not-false _ h₅)))))
+      (queue-fits q n t (resourceId f) (timestampSent f) b s (not-false _ h₃) (none-is _ (not-false _ h₄)))))
 
   cleared-live : FitsLive 0x0107 (onLive (toQueue clear) c b)
   unfolding onClear

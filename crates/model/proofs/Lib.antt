@@ -10,7 +10,6 @@ pub mod Full
 pub mod WellFormed
 pub mod ReadBack
 pub mod Room
-pub mod Marks
 pub mod Condition3
 pub mod Tables
 pub mod Refusals

@@ -18,10 +18,9 @@ use Rattle.model.specs.Answers.{bytesOf}
 use Rattle.model.specs.Steps.{Step, DeviceReply, perform, hostRefusal, stepOn, Event, eventOf, eventsOf, final}
 use Rattle.model.specs.WellFormed.{wellFormed, goodAct, goodSteps}
 use Rattle.model.specs.Tables.{Layout, Lawful, Effect, untouched, valid, carriedOut, effect, Freshened, freshen, effectOf, tableEvent, tableEvents, tableFinal}
-use Rattle.model.specs.Promises.{unmarked, FreshShort, FreshLong, NoMarkInTables}
+use Rattle.model.specs.Promises.{FreshShort, FreshLong}
 use Rattle.model.specs.Condition3.{Run, ownEvents, stepsOf, Condition3, onDevice, onTable, OnTables}
 use Rattle.model.proofs.WellFormed.{well-fresh, stays-well-formed}
-use Rattle.model.proofs.Marks.{no-mark}
 use Rattle.model.proofs.Condition3.{condition3}
 use Rattle.model.proofs.Isolation.{step-runs, step-refused, roomRefusal}
 
@@ -105,7 +104,7 @@ module _ (L : Layout) (law : Lawful L) (rest : List ℕ) where
       ap (λ (t : List ℕ). tableFinal L t ss) (same-effect d h s .1)
       ∙ same-final (stepOn d s .device) ss (stays-well-formed d s h (and-left (goodAct (s .act)) (goodSteps ss) m)) (and-right (goodAct (s .act)) (goodSteps ss) m)
 
-final-well : (d : Device) (ss : List Step) → wellFormed d ≡ true → goodSteps ss ≡ true → wellFormed (final d ss) ≡ true
+pub final-well : (d : Device) (ss : List Step) → wellFormed d ≡ true → goodSteps ss ≡ true → wellFormed (final d ss) ≡ true
 final-well d [] h m = h
 final-well d (s ∷ ss) h m =
     final-well (stepOn d s .device) ss (stays-well-formed d s h (and-left (goodAct (s .act)) (goodSteps ss) m)) (and-right (goodAct (s .act)) (goodSteps ss) m)
@@ -121,22 +120,21 @@ module _ (L : Layout) (law : Lawful L) (t : List ℕ) (h : tableWords ≤ length
   fresh-start : freshen L t .table ≡ wordsOf L law (drop tableWords t) fresh
   fresh-start = ap (λ (x : Freshened). x .table) (fresh-is L t h)
 
+  pub same-events : (ss : List Step) → goodSteps ss ≡ true → tableEvents L (freshen L t .table) ss ≡ eventsOf fresh ss
+  same-events ss m = ap (λ (x : List ℕ). tableEvents L x ss) fresh-start ∙ same-log L law (drop tableWords t) fresh ss well-fresh m
+
+  pub same-table : (ss : List Step) → goodSteps ss ≡ true → tableFinal L (freshen L t .table) ss ≡ wordsOf L law (drop tableWords t) (final fresh ss)
+  same-table ss m = ap (λ (x : List ℕ). tableFinal L x ss) fresh-start ∙ same-final L law (drop tableWords t) fresh ss well-fresh m
+
   pub same-run : (ss : List Step) → goodSteps ss ≡ true → onTable L t ss ≡ onDevice ss
   same-run ss m =
-      let rest = drop tableWords t in
-      let events : tableEvents L (freshen L t .table) ss ≡ eventsOf fresh ss = ap (λ (x : List ℕ). tableEvents L x ss) fresh-start ∙ same-log L law rest fresh ss well-fresh m in
       let records : L .decode (take tableWords (tableFinal L (freshen L t .table) ss)) ≡ final fresh ss =
-      ap (λ (x : List ℕ). L .decode (take tableWords (tableFinal L x ss))) fresh-start
-      ∙ ap (λ (x : List ℕ). L .decode (take tableWords x)) (same-final L law rest fresh ss well-fresh m)
-      ∙ device-is L law rest (final fresh ss) (final-well fresh ss well-fresh m) in
-      λ i. record { events = events i; records = λ n. recordOf n (records i .places) }
+      ap (λ (x : List ℕ). L .decode (take tableWords x)) (same-table ss m)
+      ∙ device-is L law (drop tableWords t) (final fresh ss) (final-well fresh ss well-fresh m) in
+      λ i. record { events = same-events ss m i; records = λ n. recordOf n (records i .places) }
 
   end-valid : (ss : List Step) → goodSteps ss ≡ true → valid L (tableFinal L (freshen L t .table) ss) ≡ true
-  end-valid ss m =
-      let rest = drop tableWords t in
-      ap (λ (x : List ℕ). valid L (tableFinal L x ss)) fresh-start
-      ∙ ap (valid L) (same-final L law rest fresh ss well-fresh m)
-      ∙ words-valid L law rest (final fresh ss) (final-well fresh ss well-fresh m)
+  end-valid ss m = ap (valid L) (same-table ss m) ∙ words-valid L law (drop tableWords t) (final fresh ss) (final-well fresh ss well-fresh m)
 
 -- the steps of a stream are steps in the host's types
 
@@ -192,12 +190,3 @@ fresh-long L law t h =
   where
     fresh-result : freshen L t .refusal ≡ 0
     fresh-result = ap (λ (x : Freshened). x .refusal) (fresh-is L t h)
-
--- no mark in a reached table
-pub no-mark-in-tables : (L : Layout) → Lawful L → NoMarkInTables L
-no-mark-in-tables L law t ss h m =
-    let rest = drop tableWords t in
-    ap (λ (x : List ℕ). allOf unmarked (L .decode (take tableWords (tableFinal L x ss)) .places)) (fresh-start L law t h)
-    ∙ ap (λ (x : List ℕ). allOf unmarked (L .decode (take tableWords x) .places)) (same-final L law rest fresh ss well-fresh m)
-    ∙ ap (λ (d : Device). allOf unmarked (d .places)) (device-is L law rest (final fresh ss) (final-well fresh ss well-fresh m))
-    ∙ no-mark ss

@@ -91,6 +91,10 @@ abbrev pub isInput : QueueType → Bool
 isInput input = true
 isInput output = false
 
+-- an input while draining
+abbrev pub inputDraining : QueueType → Stream → Bool
+inputDraining q b = isInput q && not (isNone (b .draining))
+
 -- 0x0105 queue: no answer now, the ticket and timestamp are kept
 unfoldable pub onQueue : Request → Stream → QueueType → Reply
 onQueue c b q =
@@ -99,8 +103,7 @@ onQueue c b q =
     let s = queueOf q b .slots in
     byTests (fail c)
     (ltb maxPlanes (numDataSizes f) ⇒ invalidParameter then
-    isInput q && not (isNone (b .draining)) ⇒ invalidOperation then
-    queueOf q b .clearing ⇒ invalidOperation then
+    inputDraining q b ⇒ invalidOperation then
     not (present r s) ⇒ invalidResource then
     not (isNone (bufferOf r (queuedIn s))) ⇒ invalidOperation then
     accept (reply [] (some (withQueue q (withSlots (setState r (queued (c .ticket) (timestampSent f)) s) (queueOf q b)) b))))
@@ -123,9 +126,9 @@ abbrev pub drainLeft : QueueType → Stream → Option ℕ
 drainLeft input b = none
 drainLeft output b = b .draining
 
--- every Queued buffer Dequeued, the clear-in-progress mark dropped
+-- every Queued buffer Dequeued
 abbrev pub cleared : Queue → Queue
-cleared q = record { width = q .width; height = q .height; rate = q .rate; clearing = false; slots = stopAll (q .slots) }
+cleared q = withSlots (stopAll (q .slots)) q
 
 -- 0x0107 clear: the queue's Queued buffers, for input a pending drain, itself
 unfoldable pub onClear : Request → Stream → QueueType → Reply
@@ -165,7 +168,7 @@ badExtent v = not (goodExtent v)
 
 -- the queue with other parameters
 abbrev pub withParameters : ℕ → ℕ → ℕ → Queue → Queue
-withParameters w h rate q = record { width = w; height = h; rate = rate; clearing = q .clearing; slots = q .slots }
+withParameters w h rate q = record { width = w; height = h; rate = rate; slots = q .slots }
 
 -- 0x0109 set
 unfoldable pub onSet : Request → Stream → QueueType → Reply

@@ -25,12 +25,11 @@ pub data Slot : Type 0 where
   free : Slot
   resource : (number : ℕ) → State → Slot
 
--- the parameters that are kept (the others follow from them), the clear-in-progress mark (document 01's word), the resources
+-- the parameters that are kept (the others follow from them), the resources
 pub record Queue : Type 0 where
   pub width : ℕ
   pub height : ℕ
   pub rate : ℕ
-  pub clearing : Bool
   pub slots : List Slot
 
 -- the record of a live stream: coded format, the ticket of a pending drain, the two queues. Its number stands in its place.
@@ -53,9 +52,9 @@ pub record Device : Type 0 where
 unfoldable pub fresh : Device
 fresh = record { places = replicate streamPlaces vacant }
 
--- what a creation leaves: 640 by 480, rate 0, no mark, no resources
+-- what a creation leaves: 640 by 480, rate 0, no resources
 abbrev pub newQueue : Queue
-newQueue = record { width = 640; height = 480; rate = 0; clearing = false; slots = replicate queueSlots free }
+newQueue = record { width = 640; height = 480; rate = 0; slots = replicate queueSlots free }
 
 -- a new stream, of a coded format
 abbrev pub newStream : ℕ → Stream
@@ -79,7 +78,7 @@ withDrain d b = record { format = b .format; draining = d; inputs = b .inputs; o
 
 -- the queue with other slots
 abbrev pub withSlots : List Slot → Queue → Queue
-withSlots s q = record { width = q .width; height = q .height; rate = q .rate; clearing = q .clearing; slots = s }
+withSlots s q = record { width = q .width; height = q .height; rate = q .rate; slots = s }
 
 -- The Queued buffers of a queue
 

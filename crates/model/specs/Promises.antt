@@ -11,9 +11,9 @@ use Rattle.model.specs.Numbers.{tableWords, answerRoom}
 use Rattle.model.specs.Device.{Place, vacant, occupied, Device, fresh}
 use Rattle.model.specs.Frames.{streamId}
 use Rattle.model.specs.Answers.{ErrorCode, code, Answer, responseOf, wordBytes, bytesOf, Written, answersIn}
-use Rattle.model.specs.Steps.{Act, command, finish, drained, Step, stepOn, Event, eventOf, final, accepted, outOfMemoryAt}
+use Rattle.model.specs.Steps.{Act, command, finish, drained, Step, stepOn, Event, eventOf, accepted, outOfMemoryAt}
 use Rattle.model.specs.WellFormed.{wellFormed, goodAct, goodSteps}
-use Rattle.model.specs.Tables.{Layout, Effect, untouched, valid, effect, freshen, tableEvent, tableEvents, tableFinal}
+use Rattle.model.specs.Tables.{Layout, Effect, untouched, valid, effect, freshen, tableEvent, tableEvents}
 
 -- Over devices
 
@@ -24,15 +24,6 @@ StaysWellFormed = (d : Device) (s : Step) → wellFormed d ≡ true → goodAct 
 -- a step writes no more than the room that it must be lent
 abbrev pub FitsRoom : Type 0
 FitsRoom = (d : Device) (s : Step) → wellFormed d ≡ true → length (bytesOf (stepOn d s .answers)) ≤ answerRoom
-
--- no mark on either queue
-abbrev pub unmarked : Place → Bool
-unmarked vacant = true
-unmarked (occupied n b) = not (b .inputs .clearing) && not (b .outputs .clearing)
-
--- no reached device carries a clear-in-progress mark
-abbrev pub NoMark : Type 0
-NoMark = (ss : List Step) → allOf unmarked (final fresh ss .places) ≡ true
 
 -- an answer as it should stand in the room
 abbrev pub asWritten : Answer → Written
@@ -126,9 +117,3 @@ NoTableRefusal L = (t : List ℕ) (ss : List Step) → tableWords ≤ length t �
 -- a step writes at most 1,056 bytes
 abbrev pub WritesAtMost : Layout → Type 0
 WritesAtMost L = (t : List ℕ) (a : Act) (room : List ℕ) → effect L t a room .written ≤ 1056
-
--- no reached table carries a clear-in-progress mark
-abbrev pub NoMarkInTables : Layout → Type 0
-NoMarkInTables L =
-    (t : List ℕ) (ss : List Step) → tableWords ≤ length t → goodSteps ss ≡ true
-    → allOf unmarked (L .decode (take tableWords (tableFinal L (freshen L t .table) ss)) .places) ≡ true

@@ -41,7 +41,7 @@ distinctSlots s = distinct (numbersIn slotNumber s)
 abbrev pub goodSlots : List Slot → Bool
 goodSlots s = eqb (length s) queueSlots && (allOf goodSlot s && distinctSlots s)
 
--- parameters such as a creation or a set leaves; the clear-in-progress mark may stand or not
+-- parameters such as a creation or a set leaves
 abbrev pub goodQueue : Queue → Bool
 goodQueue q = goodSlots (q .slots) && (goodExtent (q .width) && (goodExtent (q .height) && u32 (q .rate)))
 

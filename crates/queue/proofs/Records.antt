@@ -1,6 +1,6 @@
 -- Laws of the words of a slot and of a queue: their lengths, that decoding undoes encoding, and one slot among a queue's.
 use mathlib.Core.Path.{_≡_, refl, sym, ap, _∙_}
-use mathlib.Core.Bool.{Bool, true, false, not}
+use mathlib.Core.Bool.{true, false}
 use mathlib.Core.List.{List, [], _∷_, _++_}
 use Prim.Native.Nat.{ℕ, _+_, _*_, _/_, _%_, _^_, _<_}
 use native.Mathlib.Nat.{add-zero}
@@ -15,7 +15,7 @@ use Rattle.laws.proofs.Parts.{part-after, withPart-after}
 use Rattle.laws.proofs.Stores.{five-stored}
 use Rattle.laws.proofs.Pieces.{pieces-length, pieces-part, pieces-withPart, pieces-read, read-length}
 use Rattle.model.specs.Device.{created, queued, dequeued, Slot, free, resource, Queue, withSlots}
-use Rattle.queue.specs.Words.{slotWords, flagWord, queueWords, decodeSlot, decodeQueue}
+use Rattle.queue.specs.Words.{slotWords, queueWords, decodeSlot, decodeQueue}
 use Rattle.queue.specs.Search.{slotAt, isFree, isResource, isQueued, numberIn, ticketIn, timestampIn}
 
 -- Lengths
@@ -27,7 +27,7 @@ slot-length (resource r (queued t ts)) = refl
 slot-length (resource r dequeued) = refl
 
 queueHead : Queue → List ℕ
-queueHead q = flagWord (q .clearing) ∷ q .width ∷ q .height ∷ q .rate ∷ []
+queueHead q = 0 ∷ q .width ∷ q .height ∷ q .rate ∷ []
 
 -- four words, and five for each slot
 words-length : (q : Queue) → length (queueWords q) ≡ 4 + 5 * length (q .slots)
@@ -57,15 +57,11 @@ decode-slot (resource r created) = refl
 decode-slot (resource r (queued t ts)) = ap (λ (n : ℕ). resource r (queued t n)) (let w : ts % 2 ^ 32 + 2 ^ 32 * (ts / 2 ^ 32) ≡ ts = omega arith in w)
 decode-slot (resource r dequeued) = refl
 
-flag-back : (b : Bool) → eqb (flagWord b) 1 ≡ b
-flag-back true = refl
-flag-back false = refl
-
 pub decode-queue : (q : Queue) → length (q .slots) ≡ 16 → decodeQueue (queueWords q) ≡ q
 unfolding decodeQueue queueWords
 decode-queue q h =
     let back : readPieces decodeSlot 5 16 (pieces slotWords (q .slots)) ≡ q .slots = rw h at (pieces-read slotWords 5 (λ s. true) (λ s _. slot-length s) decodeSlot (λ s _. decode-slot s) (q .slots) (all-true (q .slots))) in
-    λ i. record { width = q .width; height = q .height; rate = q .rate; clearing = flag-back (q .clearing) i; slots = back i }
+    λ i. record { width = q .width; height = q .height; rate = q .rate; slots = back i }
 
 -- The slot at i
 
@@ -150,15 +146,6 @@ module _ (l : List ℕ) (q : Queue) (i : ℕ) (long : length l ≡ 84) (h : i < 
 
   pub queued-word : eqb (getD l (4 + 5 * i) 0) 2 ≡ isQueued (slotAt i (q .slots))
   queued-word = ap (λ (n : ℕ). eqb n 2) slot-state ∙ queued-test (slotAt i (q .slots))
-
--- a word that is not zero is a mark
-flag-set : (b : Bool) → not (eqb (flagWord b) 0) ≡ b
-flag-set true = refl
-flag-set false = refl
-
-pub mark-test : (q : Queue) → not (eqb (getD (queueWords q) 0 0) 0) ≡ q .clearing
-unfolding queueWords
-mark-test q = flag-set (q .clearing)
 
 pub width-word : (l : List ℕ) (q : Queue) → l ≡ queueWords q → getD l 1 0 ≡ q .width
 unfolding queueWords

@@ -1,6 +1,6 @@
 -- The words of a slot and of a queue in the device table, and the records that words stand for.
 use Prim.Native.Nat.{ℕ, _+_, _*_, _/_, _%_, _^_}
-use mathlib.Core.Bool.{Bool, true, false, cond}
+use mathlib.Core.Bool.{cond}
 use mathlib.Core.List.{List, [], _∷_}
 use lib.ListN.{getD, drop}
 use lib.Dec.{eqb}
@@ -19,12 +19,7 @@ slotWords (resource r created) = 1 ∷ r ∷ 0 ∷ 0 ∷ 0 ∷ []
 slotWords (resource r (queued t ts)) = 2 ∷ r ∷ t ∷ ts % 2 ^ 32 ∷ ts / 2 ^ 32 ∷ []
 slotWords (resource r dequeued) = 3 ∷ r ∷ 0 ∷ 0 ∷ 0 ∷ []
 
--- a flag is one word, 0 or 1
-abbrev pub flagWord : Bool → ℕ
-flagWord true = 1
-flagWord false = 0
-
--- a queue is 84 words: clear-in-progress mark, width, height, rate, and its sixteen slots
+-- a queue is 84 words: one without use, which is zero, width, height, rate, and its sixteen slots
 abbrev pub queueSize : ℕ
 queueSize = 84
 
@@ -34,7 +29,7 @@ firstSlot = 4
 
 -- the words of a queue
 unfoldable pub queueWords : Queue → List ℕ
-queueWords q = flagWord (q .clearing) ∷ q .width ∷ q .height ∷ q .rate ∷ pieces slotWords (q .slots)
+queueWords q = 0 ∷ q .width ∷ q .height ∷ q .rate ∷ pieces slotWords (q .slots)
 
 -- The records that words stand for. Each function is total; words that stand for no record are told by writing the record again.
 
@@ -53,7 +48,6 @@ decodeSlot w = slotIn (getD w 0 0) (getD w 1 0) (getD w 2 0) (getD w 3 0) (getD 
 unfoldable pub decodeQueue : List ℕ → Queue
 decodeQueue w =
     record {
-      clearing = eqb (getD w 0 0) 1;
       width = getD w 1 0;
       height = getD w 2 0;
       rate = getD w 3 0;

@@ -1,30 +1,21 @@
-// A queue's own four words, and changes of all its slots.
+// A queue's parameters, and changes of all its slots.
 ghost use mathlib.Core.Path.{_≡_};
 ghost use lib.ListN.{length};
 ghost use Rattle.model.specs.Device.{Queue, withSlots, stopAll, freeAll};
 ghost use Rattle.model.specs.Commands.{withParameters};
 ghost use Rattle.queue.specs.Words.{queueWords};
-ghost use Rattle.queue.specs.Changes.{markDropped};
 use crate::slots::SLOTS;
 use crate::slots::set_free;
 use crate::slots::stop_slot;
 
-// The words of a queue before its slots: the clear-in-progress mark, and the parameters that are kept.
-pub const MARK: usize = 0;
+// The words of a queue before its slots: one without use, and the parameters that are kept.
+pub const SPARE: usize = 0;
 
 pub const WIDTH: usize = 1;
 
 pub const HEIGHT: usize = 2;
 
 const RATE: usize = 3;
-
-// The clear-in-progress mark.
-pub fn clearing(q: &[u32]) -> bool
-    requires { ⌜ length (now q) ≡ 84 ⌝ }
-    ensures { λ r. ⌜ ((Q : Queue) → now (q .entry) ≡ queueWords Q → r ≡ Q .clearing) ⌝ }
-{
-    q[MARK] != 0
-}
 
 // The width.
 pub fn width(q: &[u32]) -> u32
@@ -48,14 +39,6 @@ pub fn rate(q: &[u32]) -> u32
     ensures { λ r. ⌜ ((Q : Queue) → now (q .entry) ≡ queueWords Q → r ≡ Q .rate) ⌝ }
 {
     q[RATE]
-}
-
-// The clear-in-progress mark is dropped.
-pub fn drop_mark(q: &mut [u32])
-    requires { ⌜ length (now q) ≡ 84 ⌝ }
-    ensures { λ _. ⌜ ((Q : Queue) → now (q .entry) ≡ queueWords Q → now (q .exit) ≡ queueWords (markDropped Q)) ⌝ }
-{
-    q[MARK] = 0;
 }
 
 // Other parameters are kept.

@@ -5,10 +5,8 @@ mod search;
 mod slots;
 
 pub use changes::HEIGHT;
-pub use changes::MARK;
+pub use changes::SPARE;
 pub use changes::WIDTH;
-pub use changes::clearing;
-pub use changes::drop_mark;
 pub use changes::free_all;
 pub use changes::height;
 pub use changes::rate;

@@ -7,18 +7,18 @@ use Prim.Native.Nat.{ℕ}
 use lib.ListN.{set}
 use Rattle.laws.specs.Lists.{isEmpty, isNone}
 use Rattle.laws.specs.InOrder.{accept, _⇒_then_, byTests}
-use Rattle.laws.proofs.InOrder.{tests-accept, tests-hit, tests-miss, tests-either}
+use Rattle.laws.proofs.InOrder.{tests-accept, tests-hit, tests-miss}
 use Rattle.model.specs.Device.{QueueType, created, queued, Slot, resource, Stream, queueOf, withQueue, withDrain, withSlots, queuedIn, bufferOf, present, noSlot, addResource, setState, freeAll}
 use Rattle.model.specs.Frames.{resourceId, timestampSent, frameWidth, frameHeight, frameRate}
 use Rattle.model.specs.Answers.{invalidOperation, outOfMemory, invalidResource, success, parameters}
 use Rattle.model.specs.Replies.{reply, Request, own, fail}
-use Rattle.model.specs.Commands.{onDrain, onCreateResource, onQueue, onDestroyAll, parameterWords, onGet, withParameters, formatOf, onSet}
+use Rattle.model.specs.Commands.{onDrain, onCreateResource, inputDraining, onQueue, onDestroyAll, parameterWords, onGet, withParameters, formatOf, onSet}
 use Rattle.model.proofs.Slots.{Distinct}
 use Rattle.queue.specs.Search.{slotAt, isQueued, numberIn, findResource, findFree}
 use Rattle.queue.proofs.Bridge.{find-present, find-absent, find-number, find-set, find-queued, free-room, free-add, free-none}
 use Rattle.frame.specs.Frame.{goodResource, goodSizes, goodSet}
 use Rattle.frame.proofs.Checks.{resource-good, queue-good, set-good}
-use Rattle.stream.specs.Queueing.{shut, Placed}
+use Rattle.stream.specs.Queueing.{Placed}
 
 module _ (c : Request) (b : Stream) where
   -- 0x0103
@@ -60,20 +60,14 @@ module _ (c : Request) (b : Stream) where
 
     -- 0x0105, behind a good frame
     module _ (g : goodSizes (c .frame) ≡ true) where
-      tests : onQueue c b q ≡ byTests (fail c) (shut q b ⇒ invalidOperation then
-          not (present (resourceId (c .frame)) (queueOf q b .slots)) ⇒ invalidResource then
-          not (isNone (bufferOf (resourceId (c .frame)) (queuedIn (queueOf q b .slots)))) ⇒ invalidOperation then
-          accept (reply [] (some (withQueue q (withSlots (setState (resourceId (c .frame)) (queued (c .ticket) (timestampSent (c .frame))) (queueOf q b .slots)) (queueOf q b)) b))))
-      tests = queue-good c b q g ∙ tests-either (fail c) _ (queueOf q b .clearing) invalidOperation _
+      pub queueing-draining : true ≡ inputDraining q b → onQueue c b q ≡ fail c invalidOperation
+      queueing-draining e = queue-good c b q g ∙ tests-hit (fail c) (inputDraining q b) invalidOperation _ (sym e)
 
-      pub queueing-shut : true ≡ shut q b → onQueue c b q ≡ fail c invalidOperation
-      queueing-shut e = tests ∙ tests-hit (fail c) (shut q b) invalidOperation _ (sym e)
-
-      pub queueing-absent : false ≡ shut q b → none ≡ findResource (resourceId (c .frame)) (queueOf q b .slots) → onQueue c b q ≡ fail c invalidResource
+      pub queueing-absent : false ≡ inputDraining q b → none ≡ findResource (resourceId (c .frame)) (queueOf q b .slots) → onQueue c b q ≡ fail c invalidResource
       queueing-absent e f =
           let s = queueOf q b .slots in
-          tests
-          ∙ tests-miss (fail c) (shut q b) invalidOperation _ (sym e)
+          queue-good c b q g
+          ∙ tests-miss (fail c) (inputDraining q b) invalidOperation _ (sym e)
           ∙ tests-hit (fail c) (not (present (resourceId (c .frame)) s)) invalidResource _ (ap not (find-absent (resourceId (c .frame)) s (sym f)))
 
     -- 0x0106
@@ -107,8 +101,8 @@ module _ (c : Request) (b : Stream) where
     last =
         let s = queueOf q b .slots in
         let r = resourceId (c .frame) in
-        tests q (p .sizes)
-        ∙ tests-miss (fail c) (shut q b) invalidOperation _ (p .takes)
+        queue-good c b q (p .sizes)
+        ∙ tests-miss (fail c) (inputDraining q b) invalidOperation _ (p .takes)
         ∙ tests-miss (fail c) (not (present r s)) invalidResource _ (ap not (find-present r k s (p .found)))
 
     pub queueing-again : true ≡ isQueued (slotAt k (queueOf q b .slots)) → onQueue c b q ≡ fail c invalidOperation

@@ -1,19 +1,17 @@
 // The commands to a live stream that answer no buffer, each with the queue that it names: it is tested, then its change is made and its answer
 // written from the start of the room.
 ghost use mathlib.Core.Path.{_≡_};
-ghost use mathlib.Core.Bool.{not, _&&_};
 ghost use mathlib.Core.List.{List};
 ghost use Prim.Native.Nat.{ℕ, _<_, _≤_};
 ghost use lib.ListN.{length};
-ghost use Rattle.laws.specs.Lists.{isNone};
 ghost use Rattle.model.specs.Device.{Queue, Stream, occupied, present};
 ghost use Rattle.model.specs.Frames.{frameWidth, frameHeight, frameRate};
-ghost use Rattle.model.specs.Commands.{onDrain, onCreateResource, isInput, onQueue, onDestroyAll, onGet, formatOf, withParameters, onSet};
+ghost use Rattle.model.specs.Commands.{onDrain, onCreateResource, inputDraining, onQueue, onDestroyAll, onGet, formatOf, withParameters, onSet};
 ghost use Rattle.queue.specs.Words.{queueWords};
 ghost use Rattle.table.specs.Blocks.{placeWords};
 ghost use Rattle.protocol.specs.QueueTypes.{queueTypeOf};
 ghost use Rattle.stream.specs.Replied.{BlockOf, LiveBlock, requestTo, Replied};
-ghost use Rattle.stream.specs.Queueing.{shut, Placed};
+ghost use Rattle.stream.specs.Queueing.{Placed};
 use protocol::INVALID_OPERATION;
 use protocol::INVALID_PARAMETER;
 use protocol::INVALID_RESOURCE;
@@ -93,7 +91,7 @@ pub fn queue_resource(
     if !frame::sizes_good(frame) {
         return answer::put_plain(room, 0, ticket, INVALID_PARAMETER, stream);
     }
-    if queue_shut(block, q) {
+    if input_draining(block, q) {
         return answer::put_plain(room, 0, ticket, INVALID_OPERATION, stream);
     }
     let at = table::queue_start(q);
@@ -126,22 +124,10 @@ fn queue_slot(
     0
 }
 
-// Whether a queue takes no buffer now: an input queue while draining, or a clear in progress.
-fn queue_shut(block: &[u32], q: QueueType) -> bool
-    requires { ⌜ length (now block) ≡ 512 ⌝ }
-    ensures { λ r. ⌜ ((n : ℕ) (b : Stream) → BlockOf n (now (block .entry)) b → r ≡ shut (queueTypeOf q) b) ⌝ }
-{
-    if input_draining(block, q) {
-        return true;
-    }
-    let at = table::queue_start(q);
-    queue::clearing(&block[at..at + QUEUE_WORDS])
-}
-
 // Whether the queue is the input queue of a stream whose drain is pending.
 fn input_draining(block: &[u32], q: QueueType) -> bool
     requires { ⌜ length (now block) ≡ 512 ⌝ }
-    ensures { λ r. ⌜ ((n : ℕ) (b : Stream) → BlockOf n (now (block .entry)) b → r ≡ (isInput (queueTypeOf q) && not (isNone (b .draining)))) ⌝ }
+    ensures { λ r. ⌜ ((n : ℕ) (b : Stream) → BlockOf n (now (block .entry)) b → r ≡ inputDraining (queueTypeOf q) b) ⌝ }
 {
     let QueueType::Input = q else {
         return false;

@@ -1,7 +1,7 @@
 -- The statements of specs/Promises, proved: the layout is lawful, valid is exactly the tables of well-formed devices, and condition 3 and the
 -- model's other promises hold over its tables.
 use mathlib.Core.Path.{_≡_, refl, sym, ap, ap₂, _∙_}
-use mathlib.Core.Bool.{Bool, true, false, _&&_}
+use mathlib.Core.Bool.{true, _&&_}
 use mathlib.Core.Option.{Option, none, some}
 use mathlib.Core.List.{List, [], _++_}
 use Prim.Native.Nat.{ℕ, zero, suc, _+_, _*_, _/_, _%_, _^_, _<_}
@@ -25,10 +25,10 @@ use Rattle.model.specs.Commands.{goodExtent}
 use Rattle.model.specs.WellFormed.{u32, u64, goodSlot, goodSlots, goodQueue, goodDrain, goodPlace, wellFormed}
 use Rattle.model.specs.Tables.{valid}
 use Rattle.model.proofs.WellFormed.{well-fresh, well-places}
-use Rattle.model.proofs.Tables.{on-tables, fresh-short, fresh-long, no-mark-in-tables}
+use Rattle.model.proofs.Tables.{on-tables, fresh-short, fresh-long}
 use Rattle.model.proofs.Refusals.{only-listed, no-table-refusal}
 use Rattle.model.proofs.Unchanged.{refusal-changes-nothing, error-changes-nothing, keeps-rest, stays-valid, writes-at-most}
-use Rattle.queue.specs.Words.{slotWords, flagWord, queueWords}
+use Rattle.queue.specs.Words.{slotWords, queueWords}
 use Rattle.table.specs.Blocks.{drainWords, headWords, placeWords, blocks, behind, encode, decode, layout}
 use Rattle.table.specs.Search.{hasAllSlots}
 use Rattle.table.specs.Promises.{MeetsLaws, ValidExactly, Narrow, FreshIsZero, ConditionThree, TablePromises}
@@ -121,10 +121,6 @@ narrow-slot (resource r (queued t ts)) h =
     both (and-left (u32 r) _ h) (both (and-left (u32 t) _ rest) (both (u32-of (ts % 2 ^ 32) (omega arith)) (both (u32-of (ts / 2 ^ 32) (omega arith)) refl)))
 narrow-slot (resource r dequeued) h = both (and-left (u32 r) _ h) refl
 
-narrow-flag : (b : Bool) → u32 (flagWord b) ≡ true
-narrow-flag true = u32-of 1 (omega arith)
-narrow-flag false = u32-of 0 (omega arith)
-
 narrow-extent : (v : ℕ) → goodExtent v ≡ true → u32 v ≡ true
 narrow-extent v h = let high = within-bounds v 16 4096 (and-left (within v 16 4096) _ h) .1 in u32-of v (omega arith)
 
@@ -134,7 +130,7 @@ narrow-queue q h =
     let slots = and-left (goodSlots (q .slots)) _ h in
     let params = and-right (goodSlots (q .slots)) _ h in
     let more = and-right (goodExtent (q .width)) _ params in
-    both (narrow-flag (q .clearing))
+    both (u32-of 0 (omega arith))
     (both (narrow-extent (q .width) (and-left (goodExtent (q .width)) _ params))
     (both (narrow-extent (q .height) (and-left (goodExtent (q .height)) _ more))
     (both (and-right (goodExtent (q .height)) _ more)
@@ -211,5 +207,4 @@ table-promises =
       onlyListed = only-listed layout;
       noTableRefusal = no-table-refusal layout meets-laws;
       writesAtMost = writes-at-most layout;
-      noMarkInTables = no-mark-in-tables layout meets-laws;
     }

@@ -17,7 +17,7 @@ fullSlots zero = []
 fullSlots (suc n) = resource n (queued 0xFFFFFFFF 0xFFFFFFFFFFFFFFFF) ∷ fullSlots n
 
 abbrev pub fullQueue : Queue
-fullQueue = record { width = 4096; height = 16; rate = 0xFFFFFFFF; clearing = true; slots = fullSlots queueSlots }
+fullQueue = record { width = 4096; height = 16; rate = 0xFFFFFFFF; slots = fullSlots queueSlots }
 
 -- streams n - 1, .., 0, each with a drain pending
 abbrev pub fullPlaces : ℕ → List Place

@@ -11,7 +11,7 @@ use Rattle.model.specs.Numbers.{tableWords}
 use Rattle.model.specs.Device.{Device, fresh}
 use Rattle.model.specs.WellFormed.{u32, wellFormed}
 use Rattle.model.specs.Tables.{Lawful, valid}
-use Rattle.model.specs.Promises.{FreshShort, FreshLong, RefusalChangesNothing, ErrorChangesNothing, KeepsRest, StaysValid, OnlyListed, NoTableRefusal, WritesAtMost, NoMarkInTables}
+use Rattle.model.specs.Promises.{FreshShort, FreshLong, RefusalChangesNothing, ErrorChangesNothing, KeepsRest, StaysValid, OnlyListed, NoTableRefusal, WritesAtMost}
 use Rattle.model.specs.Condition3.{OnTables}
 use Rattle.table.specs.Blocks.{encode, layout}
 
@@ -57,5 +57,3 @@ pub record TablePromises : Type 0 where
   pub noTableRefusal : NoTableRefusal layout
   -- a step writes at most 1,056 bytes
   pub writesAtMost : WritesAtMost layout
-  -- no table that such a list reaches carries a clear-in-progress mark
-  pub noMarkInTables : NoMarkInTables layout

@@ -16,7 +16,7 @@ use Rattle.model.specs.Numbers.{firstCoded, lastCoded}
 use Rattle.model.specs.Device.{input, output, created, queued, dequeued, Slot, free, resource, Queue, Stream, occupied}
 use Rattle.model.specs.Commands.{goodExtent}
 use Rattle.model.specs.WellFormed.{u32, u64, goodSlot, distinctSlots, goodQueue, goodDrain, goodPlace}
-use Rattle.queue.specs.Words.{slotWords, flagWord, queueWords}
+use Rattle.queue.specs.Words.{slotWords, queueWords}
 use Rattle.table.specs.Blocks.{drainWords, headWords, placeWords}
 use Rattle.table.specs.Search.{hasAllSlots}
 use Rattle.table.proofs.Records.{sized-queue}
@@ -66,7 +66,7 @@ queueRules q = goodExtent (q .width) && (goodExtent (q .height) && distinctSlots
 pub wide-queue : (q : Queue) → length (q .slots) ≡ 16 → allOf u32 (queueWords q) ≡ true → goodQueue q ≡ queueRules q
 unfolding queueWords
 wide-queue q sixteen h =
-    let from-width = and-right (u32 (flagWord (q .clearing))) _ h in
+    let from-width = and-right (u32 0) _ h in
     let from-height = and-right (u32 (q .width)) _ from-width in
     let from-rate = and-right (u32 (q .height)) _ from-height in
     rw (eq-eqb (length (q .slots)) 16 sixteen, wide-slots (q .slots) (and-right (u32 (q .rate)) _ from-rate), and-left (u32 (q .rate)) _ from-rate)

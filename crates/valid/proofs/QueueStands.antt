@@ -7,8 +7,8 @@ use native.Mathlib.Nat.{pos-of-ne-zero}
 use native.Mathlib.Omega.{arith}
 use native.Mathlib.Decide.{ℕ-discrete}
 use lib.ListN.{length, getD}
-use lib.Dec.{eqb, leb}
-use borrow.Author.Tests.{eq-eqb, ne-eqb, lt-leb}
+use lib.Dec.{eqb}
+use borrow.Author.Tests.{eq-eqb}
 use Rattle.laws.specs.Lists.{same}
 use Rattle.laws.specs.Tests.{allBelow}
 use Rattle.laws.specs.Parts.{part, zeros}
@@ -17,7 +17,7 @@ use Rattle.laws.proofs.Parts.{part-after}
 use Rattle.laws.proofs.Same.{same-eq, same-ne}
 use Rattle.laws.proofs.Pieces.{same-pieces}
 use Rattle.model.specs.Device.{created, queued, dequeued, Slot, free, resource}
-use Rattle.queue.specs.Words.{slotWords, flagWord, queueWords, decodeSlot, decodeQueue}
+use Rattle.queue.specs.Words.{slotWords, queueWords, decodeSlot, decodeQueue}
 use Rattle.queue.proofs.Records.{slot-length}
 
 abbrev pub slotStands : List ℕ → Bool
@@ -71,25 +71,17 @@ module _ (w : List ℕ) (long : length w ≡ 5) where
 
 -- A queue's words
 
-flag-test : (a : ℕ) → eqb a (flagWord (eqb a 1)) ≡ leb a 1
-flag-test a = go (ℕ-discrete a 0) (ℕ-discrete a 1)
-  where
-    go : Dec (a ≡ 0) → Dec (a ≡ 1) → eqb a (flagWord (eqb a 1)) ≡ leb a 1
-    go (yes e) d = rw e
-    go (no n) (yes e) = rw e
-    go (no n) (no m) = rw (ne-eqb a 1 m, ne-eqb a 0 n, lt-leb a 1 (omega (arith, pos-of-ne-zero n, m)))
-
--- the mark is 0 or 1, and each slot's words are those of the slot that they stand for
+-- the first word is zero, and each slot's words are those of the slot that they stand for
 pub queue-test : (w : List ℕ) → length w ≡ 84
-    → same w (queueWords (decodeQueue w)) ≡ leb (getD w 0 0) 1 && allBelow 16 (λ i. same (part (4 + 5 * i) 5 w) (slotWords (decodeSlot (part (4 + 5 * i) 5 w))))
+    → same w (queueWords (decodeQueue w)) ≡ eqb (getD w 0 0) 0 && allBelow 16 (λ i. same (part (4 + 5 * i) 5 w) (slotWords (decodeSlot (part (4 + 5 * i) 5 w))))
 unfolding queueWords decodeQueue same
 queue-test [] h = absurd (omega arith)
 queue-test (a ∷ []) h = absurd (omega arith)
 queue-test (a ∷ b ∷ []) h = absurd (omega arith)
 queue-test (a ∷ b ∷ c ∷ []) h = absurd (omega arith)
 queue-test (a ∷ b ∷ c ∷ d ∷ r) h =
-    rw (flag-test a, eq-eqb b b refl, eq-eqb c c refl, eq-eqb d d refl)
-    (ap (λ (x : Bool). leb a 1 && x)
+    rw (eq-eqb b b refl, eq-eqb c c refl, eq-eqb d d refl)
+    (ap (λ (x : Bool). eqb a 0 && x)
     (same-pieces slotWords 5 slot-length decodeSlot 16 r (omega arith)
     ∙ all-ext _ (λ i. slotStands (part (4 + 5 * i) 5 (a ∷ b ∷ c ∷ d ∷ r))) 16
     (λ i lt. ap slotStands (sym (part-after (a ∷ b ∷ c ∷ d ∷ []) r 4 (5 * i) 5 refl)))))

@@ -14,7 +14,6 @@ use queue::DEQUEUED;
 use queue::FIRST_SLOT;
 use queue::FREE;
 use queue::HEIGHT;
-use queue::MARK;
 use queue::QUEUE_WORDS;
 use queue::QUEUED;
 use queue::SLOT_NUMBER;
@@ -22,6 +21,7 @@ use queue::SLOT_SIZE;
 use queue::SLOT_STATE;
 use queue::SLOT_TICKET;
 use queue::SLOTS;
+use queue::SPARE;
 use queue::WIDTH;
 
 // Whether all words are zero. It never stops early, so that the compiler takes several words at once.
@@ -62,7 +62,7 @@ pub fn queue_stands(q: &[u32]) -> bool
     requires { ⌜ length (now q) ≡ 84 ⌝ }
     ensures { λ r. ⌜ r ≡ same (now (q .entry)) (queueWords (decodeQueue (now (q .entry)))) ⌝ }
 {
-    if 1 < q[MARK] {
+    if q[SPARE] != 0 {
         return false;
     }
     let mut i = 0;

@@ -4,12 +4,13 @@
 
 mod independent;
 
+use std::collections::BTreeSet;
 use std::fmt;
 use std::time::Instant;
 
 use independent::coverage::{Coverage, TABLE_NOT_VALID, TABLE_SHORT};
 use independent::device::*;
-use independent::layout::{self, Broken, WORDS};
+use independent::layout::{self, Broken, BLOCK, WORDS};
 use independent::on_words::{Core, OnWords, Outcome};
 use independent::random::{Generator, Rng, ODD_WORDS};
 use independent::slips;
@@ -205,8 +206,9 @@ impl<C: Core> Run<'_, C> {
         let (cut, spoiled, short) = (rng.percent(25), rng.percent(60), rng.percent(40));
         let mut table = table.to_vec();
         let mut device = Some(device.clone());
+        let mut edge = None;
         if spoiled {
-            self.generator.spoil(&mut table);
+            edge = self.generator.spoil(&mut table);
             device = layout::read(&table[..WORDS], None).ok();
         }
         if cut {
@@ -214,7 +216,7 @@ impl<C: Core> Run<'_, C> {
         }
         let mut room = Room::new(&mut self.generator, short);
         let done = self.compare(&mut table, device.as_mut(), act, &mut room)?;
-        self.coverage.count(act, &done, None);
+        self.coverage.count(act, &done, edge);
         Ok(())
     }
 
@@ -313,6 +315,7 @@ fn difference<T: PartialEq + fmt::LowerHex>(
 fn compare_tables(core: &impl Core, seed: u64) -> Result<u64, Mismatch> {
     let mut rng = Rng::new(seed);
     let mut broken_rules = Vec::new();
+    let mut heads = BTreeSet::new();
     let mut probes = 0;
     for device in tables_to_spoil(seed) {
         let mut table = vec![0; WORDS];
@@ -320,21 +323,24 @@ fn compare_tables(core: &impl Core, seed: u64) -> Result<u64, Mismatch> {
         let mut refused = vec![true; WORDS];
         for at in 0..WORDS {
             let kept = table[at];
-            for value in ODD_WORDS.into_iter().chain([
+            let more = [
                 0x0001_0001,
                 0x8000_0002,
                 rng.word() | 1,
                 kept ^ 1 << rng.below(32),
                 table[rng.below(WORDS)],
-            ]) {
+            ];
+            for (turn, value) in ODD_WORDS.into_iter().chain(more).enumerate() {
                 if value == kept {
                     continue;
                 }
                 table[at] = value;
                 let read = layout::read(&table, None);
                 probes += 1;
-                // Steps that are refused for something else where the table is valid.
-                let (act, otherwise) = match probes % 3 {
+                // Steps that are refused for something else where the table is valid. Over the
+                // places, each value of a block's word meets each of them.
+                let kind = (turn + at / BLOCK) % 3;
+                let (act, otherwise) = match kind {
                     0 => (Act::Command { ticket: 1, frame: vec![3, 1, 0, 0, 0, 0, 0] }, 4),
                     1 => (Act::Drained { stream: 0x1234_5678 }, 5),
                     _ => {
@@ -365,6 +371,9 @@ fn compare_tables(core: &impl Core, seed: u64) -> Result<u64, Mismatch> {
                         ),
                     });
                 }
+                if read == Err(Broken::QueueHead) && [1, 2, u32::MAX].contains(&value) {
+                    heads.insert((at % BLOCK, value, kind));
+                }
                 match read {
                     Ok(_) => refused[at] = false,
                     Err(rule) if !broken_rules.contains(&rule) => broken_rules.push(rule),
@@ -378,10 +387,11 @@ fn compare_tables(core: &impl Core, seed: u64) -> Result<u64, Mismatch> {
     }
     broken_rules.sort();
     assert_eq!(broken_rules, Broken::ALL, "each rule is to be broken");
+    assert_eq!(heads.len(), 2 * 3 * 3, "word 0 of each queue, each value and each kind of step");
     Ok(probes)
 }
 
-/// Valid tables of each sort: none live, all full, and some with holes, marks and each state.
+/// Valid tables of each sort: none live, all full, and some with holes and each state.
 fn tables_to_spoil(seed: u64) -> Vec<Device> {
     let mut generator = Generator::new(seed);
     let mut full = Device::default();

@@ -38,10 +38,14 @@ impl<C: Core + Default> Host<C> {
         host
     }
 
-    fn command(&mut self, ticket: u32, frame: &[u8]) -> Answered {
+    fn step(&mut self, act: &Act) -> Answered {
         let mut room = [0xee; ROOM];
-        let outcome = self.core.command(&mut self.table, ticket, frame, &mut room);
+        let outcome = self.core.step(&mut self.table, act, &mut room);
         answered(outcome, &room)
+    }
+
+    fn command(&mut self, ticket: u32, frame: &[u8]) -> Answered {
+        self.step(&Act::Command { ticket, frame: frame.to_vec() })
     }
 
     fn finish(
@@ -52,16 +56,11 @@ impl<C: Core + Default> Host<C> {
         flags: u32,
         timestamp: u64,
     ) -> Answered {
-        let mut room = [0xee; ROOM];
-        let report = Report { stream, queue_type, resource, flags, timestamp };
-        let outcome = self.core.finish(&mut self.table, &report, &mut room);
-        answered(outcome, &room)
+        self.step(&Act::Finish(Report { stream, queue_type, resource, flags, timestamp }))
     }
 
     fn drained(&mut self, stream: u32) -> Answered {
-        let mut room = [0xee; ROOM];
-        let outcome = self.core.drained(&mut self.table, stream, &mut room);
-        answered(outcome, &room)
+        self.step(&Act::Drained { stream })
     }
 
     /// Creates a resource of stream 7.
@@ -440,36 +439,62 @@ cases! {
         assert_eq!(host.command(0xcc, &on_queue(QUEUE_CLEAR, 7, OUTPUT)), stopped);
     }
 
-    /// A lent table may carry clear marks: one refuses a queueing on its queue, and only a clear of
-    /// that queue drops it.
-    fn clear_marks_of_a_lent_table(host: with_stream) {
-        for (number, marked, mark, other) in
-            [(1, INPUT, INPUT_AT, OUTPUT), (2, OUTPUT, OUTPUT_AT, INPUT)]
-        {
-            host.resource(marked, number);
-            host.resource(other, number);
-            host.table[mark] = 1;
-            let queue = resource_queue(7, marked, number, 0, 0);
-            assert_eq!(host.command(3, &queue), error(3, 0x0300, 7));
-            assert_eq!(host.command(3, &resource_queue(7, marked, 9, 0, 0)), error(3, 0x0300, 7));
-            assert_eq!(
-                host.command(3, &resource_queue(7, marked, number, 0, 9)),
-                error(3, 0x0304, 7)
-            );
-            host.queue(4, other, number, 0);
-            assert_eq!(host.finish(7, other, number, 0, 0), Ok(vec![buffer(4, 7, 0, 0)]));
-            host.drain(5);
-            assert_eq!(host.drained(7), ok(5, 7));
-            let format = if marked == INPUT { H264 } else { 3 };
-            assert_eq!(host.command(3, &set_params(7, marked, format, 16, 16, 0)), ok(3, 7));
-            assert_eq!(host.command(3, &on_queue(QUEUE_CLEAR, 7, other)), ok(3, 7));
-            assert_eq!(host.command(3, &on_queue(RESOURCE_DESTROY_ALL, 7, marked)), ok(3, 7));
-            host.resource(marked, number);
-            assert_eq!(host.command(3, &queue), error(3, 0x0300, 7));
-            assert_eq!(host.command(3, &on_queue(QUEUE_CLEAR, 7, marked)), ok(3, 7));
-            assert_eq!(host.table[mark], 0);
-            host.queue(6, marked, number, 0);
-            assert_eq!(host.finish(7, marked, number, 0, 0), Ok(vec![buffer(6, 7, 0, 0)]));
+    /// Word 0 of a queue has no use: where it is not zero, each kind of step is refused and changes
+    /// nothing; where it is zero again, the step is served.
+    fn word_0_of_a_queue(host: with_stream) {
+        host.resource(INPUT, 1);
+        host.resource(OUTPUT, 1);
+        let command = |frame| Act::Command { ticket: 3, frame };
+        let report = |queue_type, timestamp| {
+            Act::Finish(Report { stream: 7, queue_type, resource: 1, flags: 0, timestamp })
+        };
+        let input = [0x100, H264, 16, 16, 1, 16, 0, 0, 16, 16, 0, 1, 262_144, 0];
+        for (act, answer) in [
+            (command(resource_queue(7, INPUT, 1, 5, 0)), Ok(vec![])),
+            (command(resource_queue(7, OUTPUT, 1, 6, 0)), Ok(vec![])),
+            (command(frame(STREAM_DRAIN, 7, 8)), Ok(vec![])),
+            (report(INPUT, 8), Ok(vec![buffer(3, 7, 5, 0)])),
+            (report(OUTPUT, 8), Ok(vec![buffer(3, 7, 8, 0)])),
+            (Act::Drained { stream: 7 }, ok(3, 7)),
+            (command(on_queue(QUEUE_CLEAR, 7, INPUT)), ok(3, 7)),
+            (command(on_queue(QUEUE_CLEAR, 7, OUTPUT)), ok(3, 7)),
+            (command(resource_create(7, INPUT, 2, &[1], &[(0, 1)])), ok(3, 7)),
+            (command(on_queue(RESOURCE_DESTROY_ALL, 7, OUTPUT)), ok(3, 7)),
+            (command(set_params(7, INPUT, H264, 16, 16, 0)), ok(3, 7)),
+            (command(on_queue(GET_PARAMS, 7, INPUT)), parameters(3, 7, &input)),
+            (command(frame(QUERY_CONTROL, 7, 16)), error(3, 0x0305, 7)),
+            (command(frame(GET_CONTROL, 7, 16)), error(3, 0x0305, 7)),
+            (command(frame(SET_CONTROL, 7, 16)), error(3, 0x0305, 7)),
+            (command(frame(0x0100, 7, 16)), error(3, 0x0300, 7)),
+            (command(vec![3, 1, 0, 0, 7, 0, 0]), Err(4)),
+            (command(stream_create(2, MPEG2, b"")), ok(3, 2)),
+            (command(frame(STREAM_DESTROY, 7, 8)), ok(3, 7)),
+        ] {
+            for head in [INPUT_AT, OUTPUT_AT] {
+                for value in [1, 2, u32::MAX] {
+                    host.table[head] = value;
+                    let before = host.table.clone();
+                    assert_eq!(host.step(&act), Err(2));
+                    assert_eq!(host.table, before);
+                }
+                host.table[head] = 0;
+            }
+            assert_eq!(host.step(&act), answer);
+        }
+    }
+
+    /// A clear, with a Queued buffer or none, leaves word 0 of both queues zero, and its queue
+    /// takes a queueing at once.
+    fn queueing_after_a_clear(host: with_stream) {
+        for queue_type in [INPUT, OUTPUT] {
+            host.resource(queue_type, 1);
+            for stopped in [vec![], vec![buffer(4, 7, 5, 1)]] {
+                let answers = [stopped, vec![(3, vec![0x0200, 7])]].concat();
+                assert_eq!(host.command(3, &on_queue(QUEUE_CLEAR, 7, queue_type)), Ok(answers));
+                assert_eq!([host.table[INPUT_AT], host.table[OUTPUT_AT]], [0, 0]);
+                host.queue(4, queue_type, 1, 5);
+            }
+            assert_eq!(host.finish(7, queue_type, 1, 0, 5), Ok(vec![buffer(4, 7, 5, 0)]));
         }
     }
 

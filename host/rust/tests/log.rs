@@ -319,25 +319,25 @@ fn examples_tell_slips_apart() {
     assert!(missed.is_empty(), "no example tells of:\n{}", missed.join("\n"));
 }
 
-/// Places, states that go on alike, marks, lent tables and rooms do not show in a log. A drained
+/// Places, states that go on alike, the table's words and rooms do not show in a log. A drained
 /// report with an output still Queued is left to the random logs and to `edges.rs`.
 fn shown_by_examples(slip: &Slip) -> bool {
     !matches!(
         slip,
         Slip::Taken(_)
             | Slip::Skipped(_, "answer buffer under 1,056 bytes")
-            | Slip::Skipped(_, "that queue's clear in progress")
             | Slip::First(COMMAND, "command under 8 bytes")
-            | Slip::Last(_, "that queue's clear in progress")
             | Slip::HighestPlace
             | Slip::HighestSlot
             | Slip::StreamsMoveDown
             | Slip::StoppedIsCreated
             | Slip::FinishedIsCreated
-            | Slip::ClearKeepsMark
-            | Slip::MarkStopsDrain
-            | Slip::MarkOfEitherQueue
-            | Slip::MarksRefused
+            | Slip::TakenBy(..)
+            | Slip::QueueHeadTaken(_)
+            | Slip::QueueHeadOf1Taken
+            | Slip::HighQueueHeadTaken
+            | Slip::QueueHeadStopsQueueing
+            | Slip::ClearSetsQueueHead
             | Slip::HolesRefused
             | Slip::TableBeforeRoom
             | Slip::RoomCleared

@@ -1,4 +1,4 @@
--- `stream::queue_resource` meets its contract: a bad frame, a shut queue and an absent number refuse, and otherwise the slot is found.
+-- `stream::queue_resource` meets its contract: a bad frame, an input while draining and an absent number refuse, and otherwise the slot is found.
 use mathlib.Core.Path.{sym, ap, _∙_}
 use Prim.Native.Nat.{ℕ}
 use denote.Ref.{now}
@@ -13,7 +13,7 @@ use Rattle.laws.proofs.Tests.{was-true, was-false}
 use Rattle.frame.proofs.Checks.{queue-bad}
 use Rattle.stream.specs.Replied.{requestTo}
 use Rattle.stream.proofs.Steps.{queue-words, failed}
-use Rattle.stream.proofs.Tested.{queueing-shut, queueing-absent}
+use Rattle.stream.proofs.Tested.{queueing-draining, queueing-absent}
 use Rattle.stream.proofs.queue_resource.Statement.{statement}
 use Rattle.stream.proofs.queue_resource.Tie as tie
 
@@ -35,8 +35,8 @@ returns c b h =
     (queue-bad (requestTo (a .stream) (a .ticket) (now (a .frame)) b) b (queueTypeOf (a .q)) (was-false (after-sizes-good .sizes-good .ensures) (then1 .if1 .taken)))
     (after-put-plain .put-plain .ensures)
 
-queue-shut-requires : tie.Need-queue-shut-requires
-queue-shut-requires c κs = search needs
+input-draining-requires : tie.Need-input-draining-requires
+input-draining-requires c κs = search needs
 
 put-plain-requires-2 : tie.Need-put-plain-requires-2
 put-plain-requires-2 c κs = search needs
@@ -49,12 +49,12 @@ same-length-3 c = search needs
 
 returns-2 : tie.Need-returns-2
 returns-2 c b h =
-    let after-put-plain2 = c .before .before in let then2 = after-put-plain2 .before .before in let after-queue-shut = then2 .before in
-    let else1 = after-queue-shut .before .before in let after-sizes-good = else1 .before in let start = after-sizes-good .before .before .before .before in
+    let after-put-plain2 = c .before .before in let then2 = after-put-plain2 .before .before in let after-input-draining = then2 .before in
+    let else1 = after-input-draining .before .before in let after-sizes-good = else1 .before in let start = after-sizes-good .before .before .before .before in
     let a = start .args in
     failed (a .ticket) invalidOperation h
-    (queueing-shut (requestTo (a .stream) (a .ticket) (now (a .frame)) b) b (queueTypeOf (a .q)) (was-true (after-sizes-good .sizes-good .ensures) (else1 .if1 .left))
-    (sym (then2 .if2 .taken) ∙ after-queue-shut .queue-shut .ensures (a .stream) b h))
+    (queueing-draining (requestTo (a .stream) (a .ticket) (now (a .frame)) b) b (queueTypeOf (a .q)) (was-true (after-sizes-good .sizes-good .ensures) (else1 .if1 .left))
+    (sym (then2 .if2 .taken) ∙ after-input-draining .input-draining .ensures (a .stream) b h))
     (after-put-plain2 .put-plain2 .ensures)
 
 queue-start-requires : tie.Need-queue-start-requires
@@ -100,13 +100,13 @@ returns-3 : tie.Need-returns-3
 returns-3 c b h =
     let after-put-plain3 = c .before .before in let after-enum-told = after-put-plain3 .before .before in
     let after-find-resource = after-enum-told .before .before in let after-resource = after-find-resource .before in
-    let after-queue-start = after-resource .before .before .before in let else2 = after-queue-start .before in let after-queue-shut = else2 .before in
-    let else1 = after-queue-shut .before .before in let after-sizes-good = else1 .before in let start = after-sizes-good .before .before .before .before in
+    let after-queue-start = after-resource .before .before .before in let else2 = after-queue-start .before in let after-input-draining = else2 .before in
+    let else1 = after-input-draining .before .before in let after-sizes-good = else1 .before in let start = after-sizes-good .before .before .before .before in
     let a = start .args in
     let t = queueTypeOf (a .q) in
     failed (a .ticket) invalidResource h
     (queueing-absent (requestTo (a .stream) (a .ticket) (now (a .frame)) b) b t (was-true (after-sizes-good .sizes-good .ensures) (else1 .if1 .left))
-    (sym (else2 .if2 .left) ∙ after-queue-shut .queue-shut .ensures (a .stream) b h)
+    (sym (else2 .if2 .left) ∙ after-input-draining .input-draining .ensures (a .stream) b h)
     (sym (ap foundAt (after-enum-told .enum-told .given .1)) ∙ after-find-resource .find-resource .ensures .1 (queueOf t b) (queue-words h t _ (after-queue-start .queue-start .ensures .1))
     ∙ ap (λ (n : ℕ). findResource n (queueOf t b .slots)) (after-resource .resource .ensures)))
     (after-put-plain3 .put-plain3 .ensures)
@@ -124,14 +124,14 @@ returns-4 : tie.Need-returns-4
 returns-4 c b h =
     let after-queue-slot = c .before .before .before .before in let after-found = after-queue-slot .before .before .before .before in
     let after-find-resource = after-found .before .before in let after-resource = after-find-resource .before in
-    let after-queue-start = after-resource .before .before .before in let else2 = after-queue-start .before in let after-queue-shut = else2 .before in
-    let else1 = after-queue-shut .before .before in let after-sizes-good = else1 .before in let start = after-sizes-good .before .before .before .before in
+    let after-queue-start = after-resource .before .before .before in let else2 = after-queue-start .before in let after-input-draining = else2 .before in
+    let else1 = after-input-draining .before .before in let after-sizes-good = else1 .before in let start = after-sizes-good .before .before .before .before in
     let a = start .args in
     let t = queueTypeOf (a .q) in
     let s = queueOf t b .slots in
     after-queue-slot .queue-slot .ensures b h (record {
       sizes = was-true (after-sizes-good .sizes-good .ensures) (else1 .if1 .left);
-      takes = sym (after-queue-shut .queue-shut .ensures (a .stream) b h) ∙ else2 .if2 .left;
+      takes = sym (after-input-draining .input-draining .ensures (a .stream) b h) ∙ else2 .if2 .left;
       found =
           sym (ap (λ (n : ℕ). findResource n s) (after-resource .resource .ensures))
           ∙ sym (after-find-resource .find-resource .ensures .1 (queueOf t b) (queue-words h t _ (after-queue-start .queue-start .ensures .1)))
@@ -146,7 +146,7 @@ queue-resource-spec =
     put-plain-requires
     same-length
     returns
-    queue-shut-requires
+    input-draining-requires
     put-plain-requires-2
     same-length-2
     same-length-3

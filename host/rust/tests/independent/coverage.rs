@@ -53,7 +53,6 @@ pub const REASONS: &[(u32, Why, u32)] = &[
     (RESOURCE_QUEUE, "bad queue type", INVALID_PARAMETER),
     (RESOURCE_QUEUE, "size count above 8", INVALID_PARAMETER),
     (RESOURCE_QUEUE, "an input while draining", INVALID_OPERATION),
-    (RESOURCE_QUEUE, "that queue's clear in progress", INVALID_OPERATION),
     (RESOURCE_QUEUE, "number absent", INVALID_RESOURCE),
     (RESOURCE_QUEUE, "already Queued", INVALID_OPERATION),
     (RESOURCE_DESTROY_ALL, "wrong length", INVALID_PARAMETER),
@@ -115,7 +114,7 @@ pub const OWED: &[(u32, u32)] = &[
     (STREAM_DESTROY, OK_NODATA),
 ];
 
-/// Edges and the answer that shows their side; 0 where success answers nothing.
+/// Edges and the answer or refusal that shows their side; 0 where success answers nothing.
 const EDGES: &[(&str, u32)] = &[
     ("tag empty", OK_NODATA),
     ("tag of 63 letters and a NUL", OK_NODATA),
@@ -162,6 +161,10 @@ const EDGES: &[(&str, u32)] = &[
     ("4,097 high", INVALID_PARAMETER),
     ("4,098 high", INVALID_PARAMETER),
     ("2^31 + 16 high", INVALID_PARAMETER),
+    ("word 0 of an input queue 1", 2),
+    ("word 0 of an input queue above 1", 2),
+    ("word 0 of an output queue 1", 2),
+    ("word 0 of an output queue above 1", 2),
 ];
 
 /// Deep states, counted after each step on a valid table.
@@ -172,7 +175,6 @@ const DEPTHS: &[Why] = &[
     "32 Queued in a stream",
     "100 Queued in a table",
     "4 drains owed",
-    "a clear mark stands",
     "a free place before a used one",
     "one resource number on both queues",
     "1,056 bytes written",
@@ -211,8 +213,9 @@ impl Coverage {
         if let Some(why) = done.why {
             *self.reasons.entry((kind, why)).or_default() += 1;
         }
-        if let (Some(edge), 0) = (edge, done.refusal) {
-            *self.edges.entry((edge, code)).or_default() += 1;
+        if let Some(edge) = edge {
+            let number = if done.refusal != 0 { done.refusal } else { code };
+            *self.edges.entry((edge, number)).or_default() += 1;
         }
     }
 
@@ -224,7 +227,7 @@ impl Coverage {
         met[0] = live == PLACES;
         met[5] =
             device.places.iter().flatten().filter(|stream| stream.drain.is_some()).count() >= 4;
-        met[7] = device.places[..live].iter().any(Option::is_none);
+        met[6] = device.places[..live].iter().any(Option::is_none);
         for stream in device.places.iter().flatten() {
             let mut queued_in_stream = 0;
             for queue in [&stream.input, &stream.output] {
@@ -238,11 +241,10 @@ impl Coverage {
                 queued_in_stream += queued;
                 met[1] |= used == SLOTS;
                 met[2] |= queued == SLOTS;
-                met[6] |= queue.clear_in_progress;
-                met[7] |= queue.resources[..used].iter().any(Option::is_none);
+                met[6] |= queue.resources[..used].iter().any(Option::is_none);
             }
             met[3] |= queued_in_stream == 2 * SLOTS;
-            met[8] |= stream
+            met[7] |= stream
                 .input
                 .resources
                 .iter()
@@ -251,10 +253,10 @@ impl Coverage {
             queued_in_table += queued_in_stream;
         }
         met[4] = queued_in_table >= 100;
-        met[9] = written.len() == ROOM;
+        met[8] = written.len() == ROOM;
         // The last two are then the drain's and the command's own.
-        met[10] = types(written).ends_with(&[OK_RESOURCE_QUEUE, OK_NODATA, OK_NODATA]);
-        met[11] = behind > 0;
+        met[9] = types(written).ends_with(&[OK_RESOURCE_QUEUE, OK_NODATA, OK_NODATA]);
+        met[10] = behind > 0;
         for (depth, met) in DEPTHS.iter().zip(met) {
             *self.depths.entry(depth).or_default() += u64::from(met);
         }

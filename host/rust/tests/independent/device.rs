@@ -86,11 +86,10 @@ pub struct Stream {
     pub output: Queue,
 }
 
-/// "... its parameters, a clear-in-progress mark and its resources".
+/// "... its parameters and its resources".
 #[derive(Clone, Debug, PartialEq, Eq)]
 pub struct Queue {
     pub parameters: Parameters,
-    pub clear_in_progress: bool,
     pub resources: [Option<Resource>; SLOTS],
 }
 
@@ -392,7 +391,6 @@ impl Stream {
     pub fn new(number: u32, coded_format: u32) -> Stream {
         let queue = |queue_type| Queue {
             parameters: Parameters::left_by_set(queue_type, coded_format, 640, 480, 0),
-            clear_in_progress: false,
             resources: [None; SLOTS],
         };
         Stream {
@@ -438,9 +436,8 @@ impl Stream {
 
     /// 0x0103: "already draining (0x0300); else owed, answered by a drained report".
     fn drain(&mut self, slip: Option<Slip>, ticket: u32) -> Result<(), Hit> {
-        let mark = self.input.clear_in_progress || self.output.clear_in_progress;
-        let draining = self.drain.is_some() || slip == Some(Slip::MarkStopsDrain) && mark;
-        if slip == Some(Slip::RefusedDrainKeepsTicket) && self.drain.is_some() {
+        let draining = self.drain.is_some();
+        if slip == Some(Slip::RefusedDrainKeepsTicket) && draining {
             self.drain = Some(ticket);
         }
         first_hit(slip, STREAM_DRAIN, &[(draining, INVALID_OPERATION, "already draining")])?;
@@ -492,8 +489,6 @@ impl Stream {
         let slips = |other| slip == Some(other);
         let draining = self.drain.is_some();
         let input = word(frame, 8) == INPUT;
-        let either = slips(Slip::MarkOfEitherQueue)
-            && (self.input.clear_in_progress || self.output.clear_in_progress);
         let queue = self.named(word(frame, 8));
         let mut timestamp = long(frame, 16);
         if slips(Slip::TimestampIn32Bits) {
@@ -502,7 +497,6 @@ impl Stream {
         let sizes = word(frame, 24);
         let padding = slips(Slip::PaddingLookedAt) && word(frame, 60) != 0;
         let bad_type = queue.is_none();
-        let clearing = either || queue.as_ref().is_some_and(|queue| queue.clear_in_progress);
         let resource = queue.and_then(|queue| queue.find(word(frame, 12)));
         let queued = resource.as_ref().is_some_and(|resource| resource.is_queued());
         let refused = first_hit(
@@ -516,7 +510,6 @@ impl Stream {
                     INVALID_OPERATION,
                     "an input while draining",
                 ),
-                (clearing, INVALID_OPERATION, "that queue's clear in progress"),
                 (resource.is_none(), INVALID_RESOURCE, "number absent"),
                 (queued, INVALID_OPERATION, "already Queued"),
             ],
@@ -556,7 +549,7 @@ impl Stream {
     }
 
     /// 0x0107: "answers that queue's Queued buffers, then, for input only, an owed drain, then
-    /// itself. The clear-in-progress mark is set and dropped within the step."
+    /// itself".
     fn queue_clear(
         &mut self,
         slip: Option<Slip>,
@@ -578,11 +571,7 @@ impl Stream {
             self.stop_drain(answers);
         }
         let number = self.number;
-        let queue = self.queue(queue_type);
-        let mark = queue.clear_in_progress;
-        queue.clear_in_progress = true;
-        queue.stop(slip, number, answers);
-        queue.clear_in_progress = slips(Slip::ClearKeepsMark) && mark;
+        self.queue(queue_type).stop(slip, number, answers);
         let kept = slips(Slip::InputClearNeedsBuffers) && answers.bytes.is_empty();
         if (input || slips(Slip::OutputClearEndsDrain)) && !kept {
             self.stop_drain(answers);
@@ -872,7 +861,7 @@ fn utf8_but_cut(bytes: &[u8]) -> bool {
 }
 
 /// A little-endian number of 4 bytes. Past the end it is 0, which only a slip gets to see.
-fn word(bytes: &[u8], at: usize) -> u32 {
+pub fn word(bytes: &[u8], at: usize) -> u32 {
     match bytes.get(at..at + 4) {
         Some(&[a, b, c, d]) => u32::from_le_bytes([a, b, c, d]),
         _ => 0,

@@ -27,8 +27,6 @@ pub enum Broken {
     Drain,
     /// A drain's ticket stands while none is owed.
     DrainTicket,
-    /// A clear mark is neither 0 nor 1.
-    Mark,
     /// A slot's state is above 3.
     SlotState,
     /// A free slot is not all zero.
@@ -37,6 +35,8 @@ pub enum Broken {
     NotQueued,
     /// One of words 5 to 7 of a live block is not zero.
     Head,
+    /// Word 0 of a queue of a live block, which has no use, is not zero.
+    QueueHead,
     /// One of words 176 to 511 of a live block is not zero.
     Tail,
     /// The coded format is outside 0x1000 to 0x1005.
@@ -55,11 +55,11 @@ impl Broken {
         Broken::Vacant,
         Broken::Drain,
         Broken::DrainTicket,
-        Broken::Mark,
         Broken::SlotState,
         Broken::FreeSlot,
         Broken::NotQueued,
         Broken::Head,
+        Broken::QueueHead,
         Broken::Tail,
         Broken::Format,
         Broken::Extent,
@@ -115,9 +115,14 @@ fn read_queue(
     coded_format: u32,
     slip: Option<Slip>,
 ) -> Result<Queue, Broken> {
-    let (mark, width, height, rate) = (words[0], words[1], words[2], words[3]);
-    ask(mark <= 1, Broken::Mark, slip)?;
-    ask(mark == 0 || slip != Some(Slip::MarksRefused), Broken::Mark, None)?;
+    let (head, width, height, rate) = (words[0], words[1], words[2], words[3]);
+    let passed = match slip {
+        Some(Slip::QueueHeadTaken(of)) => of == queue_type,
+        Some(Slip::QueueHeadOf1Taken | Slip::QueueHeadStopsQueueing) => head == 1,
+        Some(Slip::HighQueueHeadTaken) => head >= 1 << 31,
+        _ => false,
+    };
+    ask(head == 0 || passed, Broken::QueueHead, slip)?;
     for extent in [width, height] {
         ask(extent % 2 == 0 && (16..=4096).contains(&extent), Broken::Extent, slip)?;
     }
@@ -129,7 +134,6 @@ fn read_queue(
     ask(!twice(numbers), Broken::ResourceTwice, slip)?;
     Ok(Queue {
         parameters: Parameters::left_by_set(queue_type, coded_format, width, height, rate),
-        clear_in_progress: mark != 0,
         resources,
     })
 }
@@ -180,7 +184,7 @@ fn write_place(stream: &Stream, block: &mut [u32]) {
 }
 
 fn write_queue(queue: &Queue, words: &mut [u32]) {
-    words[0] = u32::from(queue.clear_in_progress);
+    words[0] = 0;
     words[1] = queue.parameters.width;
     words[2] = queue.parameters.height;
     words[3] = queue.parameters.rate;
@@ -210,6 +214,7 @@ pub fn without_use(device: &Device) -> Vec<usize> {
         }
         unused.extend(start + 5..start + INPUT_AT);
         for (queue, at) in [(&stream.input, INPUT_AT), (&stream.output, OUTPUT_AT)] {
+            unused.push(start + at);
             for (slot, resource) in queue.resources.iter().enumerate() {
                 let first = start + at + SLOTS_AT + slot * SLOT;
                 match resource.map(|resource| resource.state) {

@@ -1,8 +1,8 @@
 //! The independent device on a lent table: the same work as the core, the test of validity
 //! included.
 
-use super::device::{Act, Device, Report, COMMAND, DRAINED, FINISH, ROOM};
-use super::layout::{self, WORDS};
+use super::device::*;
+use super::layout::{self, BLOCK, INPUT_AT, OUTPUT_AT, WORDS};
 use super::slips::Slip;
 
 /// What a step gives back: a refusal number or 0, with the number of bytes written.
@@ -44,10 +44,25 @@ impl Core for OnWords {
     }
 
     fn command(&self, table: &mut [u32], ticket: u32, frame: &[u8], answers: &mut [u8]) -> Outcome {
-        on_words(self.0, COMMAND, table, answers, |device, room| {
+        let slips = |other| self.0 == Some(other);
+        let form = (word(frame, 0), frame.len());
+        let head = head_named(table, frame);
+        let stopped = slips(Slip::QueueHeadStopsQueueing)
+            && form == (RESOURCE_QUEUE, 64)
+            && head.is_some_and(|head| table[head] != 0);
+        let cleared = slips(Slip::ClearSetsQueueHead) && form == (QUEUE_CLEAR, 16);
+        let outcome = on_words(self.0, COMMAND, table, answers, |device, room| {
+            if stopped {
+                let answer = [ticket, 8, INVALID_OPERATION, word(frame, 4)];
+                return (0, answer.into_iter().flat_map(u32::to_le_bytes).collect());
+            }
             let done = device.command(ticket, frame, room);
             (done.refusal, done.written)
-        })
+        });
+        if let (true, Some(head), 0) = (cleared, head, outcome.refusal) {
+            table[head] = 1;
+        }
+        outcome
     }
 
     fn finish(&self, table: &mut [u32], report: &Report, answers: &mut [u8]) -> Outcome {
@@ -70,6 +85,17 @@ pub fn step_on_words(table: &mut [u32], act: &Act, room: &mut [u8]) -> Outcome {
     OnWords(None).step(table, act, room)
 }
 
+/// Where word 0 of the queue stands that a frame names, if it does.
+fn head_named(table: &[u32], frame: &[u8]) -> Option<usize> {
+    let in_block = match QueueType::of(word(frame, 8))? {
+        QueueType::Input => INPUT_AT,
+        QueueType::Output => OUTPUT_AT,
+    };
+    let mut blocks = table.chunks_exact(BLOCK).take(PLACES);
+    let place = blocks.position(|block| block[0] == 1 && block[1] == word(frame, 4))?;
+    Some(place * BLOCK + in_block)
+}
+
 /// "Tested 1, 3, 2, then" the step's own.
 fn on_words(
     slip: Option<Slip>,
@@ -85,6 +111,10 @@ fn on_words(
     if room.len() < ROOM && !slip.is_some_and(|slip| slip.leaves_room_to_device(kind)) {
         return refuse(3);
     }
+    let slip = match slip {
+        Some(Slip::TakenBy(of, rule)) if of == kind => Some(Slip::Taken(rule)),
+        _ => slip,
+    };
     let Ok(mut device) = layout::read(words, slip) else {
         return refuse(2);
     };

@@ -159,6 +159,12 @@ const EXTENT_EDGES: [(u32, &str, &str); 9] = [
     (0x8000_0010, "2^31 + 16 wide", "2^31 + 16 high"),
 ];
 
+/// Word 0 of a queue in a block with the names of its edges.
+const HEAD_EDGES: [(usize, &str, &str); 2] = [
+    (INPUT_AT, "word 0 of an input queue 1", "word 0 of an input queue above 1"),
+    (OUTPUT_AT, "word 0 of an output queue 1", "word 0 of an output queue above 1"),
+];
+
 /// Bytes that are UTF-8 by RFC 3629: the first and last character of each length and beside the
 /// surrogates, and odd ones.
 const GOOD_TEXT: [&[u8]; 14] = [
@@ -901,7 +907,7 @@ impl Generator {
         let number = stream.number;
         let mut ends = Vec::new();
         for (queue_type, queue) in [(INPUT, &stream.input), (OUTPUT, &stream.output)] {
-            // Drops the marks, and for the input a drain.
+            // Stops what is Queued, and for the input a drain.
             add(&mut self.rng, frames::on_queue(QUEUE_CLEAR, number, queue_type));
             let mut numbers: Vec<u32> =
                 queue.resources.iter().flatten().map(|resource| resource.number).collect();
@@ -959,7 +965,7 @@ impl Generator {
         self.plan = plan;
     }
 
-    /// Records of a table to lend: any that are valid, with marks, holes and numbers in no order.
+    /// Records of a table to lend: any that are valid, with holes and numbers in no order.
     pub fn lent(&mut self) -> Device {
         let mut device = Device::default();
         let streams = self.rng.pick(&[10, 40, 70, 100]);
@@ -993,7 +999,6 @@ impl Generator {
         let numbers = self.distinct(&RESOURCES);
         let mut queue = Queue {
             parameters: Parameters::left_by_set(queue_type, coded_format, width, height, rate),
-            clear_in_progress: self.rng.percent(25),
             resources: [None; SLOTS],
         };
         for (slot, number) in queue.resources.iter_mut().zip(numbers) {
@@ -1041,13 +1046,13 @@ impl Generator {
         (0..length).map(|_| self.rng.word()).collect()
     }
 
-    /// Changes one word of a table; it may still be valid then.
-    pub fn spoil(&mut self, table: &mut [u32]) {
+    /// Changes one word of a table; it may still be valid then. Gives the edge, if it is one.
+    pub fn spoil(&mut self, table: &mut [u32]) -> Option<&'static str> {
         let block = BLOCK * self.rng.below(PLACES);
         let queue = block + self.rng.pick(&[INPUT_AT, OUTPUT_AT]);
         let slot = |rng: &mut Rng| queue + SLOTS_AT + SLOT * rng.below(SLOTS);
         let odd = self.rng.pick(&ODD_WORDS);
-        match self.rng.below(8) {
+        match self.rng.below(9) {
             0 => table[self.rng.below(WORDS)] = odd,
             1 => table[self.rng.below(WORDS)] ^= 1 << self.rng.below(32),
             2 => table[block + self.rng.below(INPUT_AT)] = odd,
@@ -1058,8 +1063,27 @@ impl Generator {
                 table[slot(&mut self.rng) + 1] = table[from];
             }
             6 => table[BLOCK * self.rng.below(PLACES) + 1] = table[block + 1],
-            _ => table[block + self.rng.within(TAIL_AT, BLOCK - 1)] = odd,
+            7 => table[block + self.rng.within(TAIL_AT, BLOCK - 1)] = odd,
+            _ => return self.spoil_head(table),
         }
+        None
+    }
+
+    /// Changes word 0 of a queue of a live stream, if there is one.
+    fn spoil_head(&mut self, table: &mut [u32]) -> Option<&'static str> {
+        let blocks = (0..WORDS).step_by(BLOCK);
+        let live: Vec<usize> = blocks.filter(|&block| table[block] == 1).collect();
+        if live.is_empty() {
+            return None;
+        }
+        let block = self.rng.pick(&live);
+        let (head, one, above) = self.rng.pick(&HEAD_EDGES);
+        if self.rng.percent(50) {
+            table[block + head] = 1;
+            return Some(one);
+        }
+        table[block + head] = self.rng.pick(&[2, 3, 0x100, 0x0001_0000, 0x8000_0000, 0xffff_ffff]);
+        Some(above)
     }
 
     /// The length of an answer room: mostly enough.

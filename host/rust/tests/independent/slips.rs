@@ -83,12 +83,6 @@ pub enum Slip {
     StoppedWithoutErr,
     /// Stopped outputs carry no timestamp.
     StoppedOutputsOfTimeZero,
-    /// A clear leaves a standing mark.
-    ClearKeepsMark,
-    /// A standing mark refuses a drain.
-    MarkStopsDrain,
-    /// A standing mark refuses the queueing on the other queue too.
-    MarkOfEitherQueue,
     /// A query of a control may have more than 16 bytes.
     LongControlQuery,
     /// Inputs are answered with 0x0200.
@@ -125,8 +119,19 @@ pub enum Slip {
     // Of the table and the room.
     /// A table that breaks this rule is taken.
     Taken(Broken),
-    /// A table with a clear mark is not valid.
-    MarksRefused,
+    /// A table that breaks this rule is taken by this kind of step.
+    TakenBy(u32, Broken),
+    /// A table is taken whatever word 0 of this queue is.
+    QueueHeadTaken(QueueType),
+    /// A table is taken in which word 0 of a queue is 1.
+    QueueHeadOf1Taken,
+    /// A table is taken in which word 0 of a queue is 2^31 or more.
+    HighQueueHeadTaken,
+    /// A table is taken in which word 0 of a queue is 1, but a queueing on that queue is answered
+    /// with 0x0300.
+    QueueHeadStopsQueueing,
+    /// A clear leaves word 0 of its queue 1.
+    ClearSetsQueueHead,
     /// A table with a free place before a used one is not valid.
     HolesRefused,
     /// The table's validity is tested before the room.
@@ -181,9 +186,6 @@ pub const NAMED: &[Slip] = &[
     Slip::FinishedIsCreated,
     Slip::StoppedWithoutErr,
     Slip::StoppedOutputsOfTimeZero,
-    Slip::ClearKeepsMark,
-    Slip::MarkStopsDrain,
-    Slip::MarkOfEitherQueue,
     Slip::LongControlQuery,
     Slip::InputOfPlainType,
     Slip::OutputOfPlainType,
@@ -200,7 +202,15 @@ pub const NAMED: &[Slip] = &[
     Slip::TimestampIn32Bits,
     Slip::HalfSecondStride,
     Slip::DefaultPlaneSizes,
-    Slip::MarksRefused,
+    Slip::TakenBy(COMMAND, Broken::QueueHead),
+    Slip::TakenBy(FINISH, Broken::QueueHead),
+    Slip::TakenBy(DRAINED, Broken::QueueHead),
+    Slip::QueueHeadTaken(QueueType::Input),
+    Slip::QueueHeadTaken(QueueType::Output),
+    Slip::QueueHeadOf1Taken,
+    Slip::HighQueueHeadTaken,
+    Slip::QueueHeadStopsQueueing,
+    Slip::ClearSetsQueueHead,
     Slip::HolesRefused,
     Slip::TableBeforeRoom,
     Slip::RoomCleared,
@@ -227,7 +237,7 @@ pub fn all() -> Vec<Slip> {
         Slip::Last(RESOURCE_CREATE, "number present"),
         Slip::First(RESOURCE_QUEUE, "number absent"),
         Slip::First(RESOURCE_QUEUE, "an input while draining"),
-        Slip::Last(RESOURCE_QUEUE, "that queue's clear in progress"),
+        Slip::Last(RESOURCE_QUEUE, "an input while draining"),
         Slip::First(SET_PARAMS, "any of that queue Queued"),
         Slip::First(QUERY_CONTROL, "unsupported control"),
         Slip::First(SET_CONTROL, "stream not live"),

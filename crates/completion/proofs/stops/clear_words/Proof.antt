@@ -17,35 +17,35 @@ end-drain-requires c κs = search needs
 queue-start-requires : tie.Need-queue-start-requires
 queue-start-requires c κs = search needs
 
-add-clear-slots : tie.Need-add-clear-slots
-add-clear-slots c = search needs
+add-stop-all : tie.Need-add-stop-all
+add-stop-all c = search needs
 
-mul-clear-slots : tie.Need-mul-clear-slots
-mul-clear-slots c = search needs
+mul-stop-all : tie.Need-mul-stop-all
+mul-stop-all c = search needs
 
-sub-clear-slots : tie.Need-sub-clear-slots
-sub-clear-slots c = search needs
+sub-stop-all : tie.Need-sub-stop-all
+sub-stop-all c = search needs
 
-part-clear-slots-start : tie.Need-part-clear-slots-start
-part-clear-slots-start c = search needs
+part-stop-all-start : tie.Need-part-stop-all-start
+part-stop-all-start c = search needs
 
-part-clear-slots-end : tie.Need-part-clear-slots-end
-part-clear-slots-end c = search needs
+part-stop-all-end : tie.Need-part-stop-all-end
+part-stop-all-end c = search needs
 
-clear-slots-requires : tie.Need-clear-slots-requires
-clear-slots-requires c κs = search needs
+stop-all-requires : tie.Need-stop-all-requires
+stop-all-requires c κs = search needs
 
 same-length : tie.Need-same-length
 same-length c = search needs
 
 returns : tie.Need-returns
 returns c n b h =
-    let after-clear-slots = c .before .before in let after-queue-start = after-clear-slots .before .before in
+    let after-stop-all = c .before .before in let after-queue-start = after-stop-all .before .before in
     let after-end-drain = after-queue-start .before .before .before in let start = after-end-drain .before .before .before in
     let q = queueTypeOf (start .args .queue) in
     let x = withDrain (drainLeft q b) b in
     queue-lent n x (queue-sized n b (slot-count h)) q _ (after-queue-start .queue-start .ensures .1) _ (after-end-drain .end-drain .ensures n b (h .held)) _
-    (cleared (queueOf q x)) (after-clear-slots .clear-slots .ensures (queueOf q x))
+    (cleared (queueOf q x)) (after-stop-all .stop-all .ensures (queueOf q x))
     ∙ ap (λ (y : Queue). placeWords (occupied n (withQueue q (cleared y) x))) (queue-kept q (drainLeft q b) b)
 
 pub clear-words-spec : {M : Type 1} → statement M
@@ -54,11 +54,11 @@ clear-words-spec =
     (tie.spec
     end-drain-requires
     queue-start-requires
-    add-clear-slots
-    mul-clear-slots
-    sub-clear-slots
-    part-clear-slots-start
-    part-clear-slots-end
-    clear-slots-requires
+    add-stop-all
+    mul-stop-all
+    sub-stop-all
+    part-stop-all-start
+    part-stop-all-end
+    stop-all-requires
     same-length
     returns)

@@ -1,4 +1,4 @@
--- `queue::store_parameters` meets its contract: the three words after the mark.
+-- `queue::store_parameters` meets its contract: the three words after the first.
 use mathlib.Core.Path.{ap}
 use mathlib.Core.List.{List}
 use Prim.Native.Nat.{ℕ}

@@ -1,11 +1,11 @@
 -- `valid::queue_stands` meets its contract. The invariant: the words of each slot below `i` are those of the slot that they stand for.
 use mathlib.Core.Path.{_≡_, sym, ap, _∙_}
 use mathlib.Core.Bool.{true}
-use Prim.Native.Nat.{ℕ, _<_, _≤_, _-_, _+_, _*_}
+use Prim.Native.Nat.{ℕ, _≤_, _-_, _+_, _*_}
 use native.Mathlib.Omega.{arith}
 use native.Mathlib.Nat.{add-sub-cancel-left}
 use borrow.Author.Needs.{needs}
-use borrow.Author.Tests.{le-leb, lt-leb, not-true, not-false}
+use borrow.Author.Tests.{eq-eqb, ne-eqb, not-true, not-false}
 use Rattle.laws.specs.Parts.{part}
 use Rattle.laws.specs.Tests.{allBelow}
 use Rattle.laws.proofs.Tests.{all-none, all-more, all-fails}
@@ -23,7 +23,7 @@ shared-slice-read-if1 : tie.Need-shared-slice-read-if1 Inv-loop μ-loop
 shared-slice-read-if1 c = search needs
 
 returns : tie.Need-returns Inv-loop μ-loop
-returns c = let marked : 1 < _ = c .if1 .taken in sym (queue-test _ (c .before .before .before .pre) ∙ rw (lt-leb _ _ marked))
+returns c = sym (queue-test _ (c .before .before .before .pre) ∙ rw (ne-eqb _ 0 (c .if1 .taken)))
 
 loop-holds : tie.Need-loop-holds Inv-loop μ-loop
 loop-holds c = (search needs, all-none (λ j. slotStands (part (4 + 5 * j) 5 (c .before .before .before .args .q .now))))
@@ -58,7 +58,7 @@ returns-2 c =
     let start = else1 .before .before .before in
     let l = at-loop .loop in
     let test = after-slot-stands .slot-stands .ensures ∙ ap (λ (n : ℕ). slotStands (part (4 + 5 * l .i) n (start .args .q .now))) (add-sub-cancel-left (4 + 5 * l .i) 5) in
-    sym (queue-test _ (start .pre) ∙ rw (le-leb _ _ (else1 .if1 .left))
+    sym (queue-test _ (start .pre) ∙ rw (eq-eqb _ 0 (else1 .if1 .left))
     (all-fails (λ j. slotStands (part (4 + 5 * j) 5 (start .args .q .now))) 16 (l .i) (search needs) (sym test ∙ not-true _ (c .if2 .taken))))
 
 add-i : tie.Need-add-i Inv-loop μ-loop
@@ -78,7 +78,7 @@ returns-3 : tie.Need-returns-3 Inv-loop μ-loop
 returns-3 c =
     let l = c .before .loop in
     let end : l .i ≡ 16 = omega (arith, c .loop-test .left) in
-    sym (queue-test _ (c .before .before .before .before .before .pre) ∙ rw (le-leb _ _ (c .before .before .if1 .left)) (rw end at (l .inv .1)))
+    sym (queue-test _ (c .before .before .before .before .before .pre) ∙ rw (eq-eqb _ 0 (c .before .before .if1 .left)) (rw end at (l .inv .1)))
 
 pub queue-stands-spec : {M : Type 1} → statement M
 queue-stands-spec =
