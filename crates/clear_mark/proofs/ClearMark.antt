@@ -21,11 +21,11 @@ use Rattle.laws.specs.Parts.{part, zeros, pieces}
 use Rattle.laws.proofs.Tests.{and-left, and-right, ne-true}
 use Rattle.laws.proofs.Lists.{all-getD}
 use Rattle.laws.proofs.Parts.{zero-at}
-use Rattle.model.specs.Numbers.{tableWords}
+use Rattle.model.specs.Numbers.{tableWords, answerRoom}
 use Rattle.model.specs.Device.{QueueType, input, output, Place, vacant, occupied, Device, fresh, putRecord}
 use Rattle.model.specs.Frames.{ruleOf, queueNamed, queueType, streamId}
 use Rattle.model.specs.Answers.{responseBytes, readFrom}
-use Rattle.model.specs.Commands.{onCreate, onCreateResource, onQueue, onClear, onCommand}
+use Rattle.model.specs.Commands.{onCreate, onDestroy, onCreateResource, onQueue, onClear, onCommand}
 use Rattle.model.specs.Steps.{Act, command, finish, drained, Step, streamOf, serve, DeviceReply, hostRefusal, stepOn, Event, eventOf, eventsOf, final, accepted}
 use Rattle.model.specs.Tables.{valid, effect}
 use Rattle.model.proofs.WellFormed.{well-fresh}
@@ -58,9 +58,9 @@ unfolding markedStep
 same-step d s u = simp (no-hit-of d (s .act) u, and-false)
 
 -- a step sets no mark
-still-unmarked : (m : Marks) (e : Event) → Unmarked m → Unmarked (marksAfter m e)
+still-unmarked : (d : MarkedDevice) (e : Event) → Unmarked (d .marks) → Unmarked (marksAfter d e)
 unfolding marksAfter
-still-unmarked m e u n q = simp (u n q)
+still-unmarked d e u n q = simp (u n q)
 
 -- Lists
 
@@ -72,7 +72,7 @@ module _ {d : MarkedDevice} {x : Device} (u : Unmarked (d .marks)) (e : d .devic
   after-is = ap (λ (o : DeviceReply). o .device) step-is
 
   after-unmarked : Unmarked (markedAfter d s .marks)
-  after-unmarked = still-unmarked (d .marks) (eventOf s (markedStep d s)) u
+  after-unmarked = still-unmarked d (eventOf s (markedStep d s)) u
 
 events-are : (d : MarkedDevice) (x : Device) (ss : List Step) → Unmarked (d .marks) → d .device ≡ x → markedEvents d ss ≡ eventsOf x ss
 events-are d x [] u e = refl
@@ -162,10 +162,10 @@ pub mark-refused : MarkRefused
 unfolding effect hostRefusal
 mark-refused t a room k q long roomy h marked =
     let invalid : valid layout t ≡ false = ne-true (valid layout t) (λ v. marked (valid-spare t v k q h)) in
-    simp (le-ltb (length t) 4096 long, le-ltb (length room) 1056 roomy, invalid)
+    simp (le-ltb (length t) tableWords long, le-ltb (length room) answerRoom roomy, invalid)
 
 -- With a mark
 
 pub mark-case : MarkCase
-unfolding within same insertBy below notBelow field littleEndian classOf utf8After utf8 nulAt goodTag fresh putRecord ruleOf queueNamed responseBytes readFrom byTests onCreate onCreateResource onQueue onClear onCommand streamOf serve hostRefusal stepOn accepted pieces zeros headWords queueWords placeWords behind markHits markedStep marksAfter markedWords markedEncode
-mark-case = record { marked = refl; with-mark = refl; without-mark = refl }
+unfolding within same insertBy below notBelow field littleEndian classOf utf8After utf8 nulAt goodTag fresh putRecord ruleOf queueNamed responseBytes readFrom byTests onCreate onDestroy onCreateResource onQueue onClear onCommand streamOf serve hostRefusal stepOn accepted pieces zeros headWords queueWords placeWords behind markHits markedStep marksAfter markedWords markedEncode
+mark-case = record { inputWords = refl; outputWords = refl; differ = refl; listOrder = refl; dropped = refl; gone = refl; anew = refl }

@@ -1,11 +1,11 @@
--- Document 01 as it was before change request 5, for one theorem: each queue of a live stream also has a clear-in-progress mark, and a queueing
--- on a queue whose mark stands is refused. The rule is written around the present step, with the marks beside the device. This file is the only
--- one that names both rules, and only its proof uses it.
+-- The rule of document 01 that change request 5 struck, for one theorem: each queue of a live stream has a clear-in-progress mark, and a queueing
+-- on a queue whose mark stands is refused. It is written around the present step, with the marks beside the device. This file is the only one
+-- that names both rules, and only its proof uses it.
 use Prim.Native.Nat.{ℕ, _+_, _*_, _<_, _≤_}
 use mathlib.Core.Path.{_≡_}
-use mathlib.Core.Bool.{Bool, true, false, cond, not, _&&_, _||_}
+use mathlib.Core.Bool.{Bool, true, false, cond, not, _&&_}
 use mathlib.Core.Option.{Option, none, some}
-use mathlib.Core.List.{List, [], _∷_, _++_}
+use mathlib.Core.List.{List, [], _∷_, _++_, map}
 use lib.ListN.{length, getD, set, drop}
 use lib.Dec.{eqb, ltb}
 use Rattle.laws.specs.Lists.{isNone}
@@ -14,12 +14,11 @@ use Rattle.model.specs.Numbers.{tableWords, answerRoom, streamPlaces, maxPlanes
 use Rattle.model.specs.Device.{QueueType, input, output, Place, vacant, occupied, Device, fresh, recordOf}
 use Rattle.model.specs.Frames.{queueNumber, queueNamed, queueType, streamId, numDataSizes}
 use Rattle.model.specs.Answers.{invalidOperation, failure}
-use Rattle.model.specs.Commands.{isInput}
 use Rattle.model.specs.Steps.{Act, command, finish, drained, Step, DeviceReply, stepOn, Event, eventOf, accepted}
 use Rattle.model.specs.Ledger.{isType, stepStream, stepTicket}
 use Rattle.model.specs.WellFormed.{goodSteps}
 use Rattle.model.specs.Tables.{untouched, effect, freshen, tableEvents, tableFinal}
-use Rattle.model.specs.Cases.{Expected, _gives_, roomy, agrees, allAgree, deviceAfter, askQueue, askClear, bothQueues, successTo, failsWith, bufferEnds}
+use Rattle.model.specs.Cases.{Expected, _gives_, roomy, agrees, allAgree, deviceAfter, ask, askCreate, askResource, askQueue, askClear, bothQueues, successTo, failsWith}
 use Rattle.table.specs.Blocks.{placeSize, queueStart, placeWords, behind, layout}
 
 -- whether the mark of a queue of a stream stands
@@ -57,19 +56,19 @@ markedStep d s =
     let o : DeviceReply = stepOn (d .device) s in
     cond (eqb (o .refusal) 0 && markHits d (s .act)) (markAnswer (d .device) (s .act)) o
 
--- a clear drops the mark of its queue, and a new stream has none
-abbrev pub dropsMark : ℕ → QueueType → Act → Bool
-dropsMark n q (command t f) = eqb (streamId f) n && (isType 0x0101 f || (isType 0x0107 f && eqb (queueType f) (queueNumber q)))
-dropsMark n q (finish m qt r flags ts) = false
-dropsMark n q (drained m) = false
+-- a clear of that queue
+abbrev pub isClearOf : ℕ → QueueType → Act → Bool
+isClearOf n q (command t f) = isType 0x0107 f && (eqb (streamId f) n && eqb (queueType f) (queueNumber q))
+isClearOf n q (finish m qt r flags ts) = false
+isClearOf n q (drained m) = false
 
--- the marks after a step
-unfoldable pub marksAfter : Marks → Event → Marks
-marksAfter m e n q = m n q && not (accepted e && dropsMark n q (e .step .act))
+-- the marks after a step: one stays where its stream was live, and so a new stream has none; a clear drops that of its queue
+unfoldable pub marksAfter : MarkedDevice → Event → Marks
+marksAfter d e n q = d .marks n q && (not (isNone (recordOf n (d .device .places))) && not (accepted e && isClearOf n q (e .step .act)))
 
 -- the marked device after a step
 abbrev pub markedAfter : MarkedDevice → Step → MarkedDevice
-markedAfter d s = record { device = markedStep d s .device; marks = marksAfter (d .marks) (eventOf s (markedStep d s)) }
+markedAfter d s = record { device = markedStep d s .device; marks = marksAfter d (eventOf s (markedStep d s)) }
 
 -- the events of a list, and the marked device at its end
 abbrev pub markedEvents : MarkedDevice → List Step → List Event
@@ -118,31 +117,47 @@ MarkRefused =
     (t : List ℕ) (a : Act) (room : List ℕ) (k : ℕ) (q : QueueType) → tableWords ≤ length t → answerRoom ≤ length room → k < streamPlaces
     → (getD t (placeSize * k + queueStart q) 0 ≡ 0 → ⊥) → effect layout t a room ≡ untouched 2 t room
 
--- Where a mark stands the two rules differ: stream 7 with resource 9 on both queues, and the mark of its input queue
+-- Where a mark stands the two rules differ
 
-abbrev pub marked7 : MarkedDevice
-marked7 = record { device = deviceAfter bothQueues; marks = λ n q. eqb n 7 && isInput q }
+-- a device with the mark of one queue of stream 7
+abbrev pub markedAt : QueueType → Device → MarkedDevice
+markedAt q d = record { device = d; marks = λ n p. eqb n 7 && eqb (queueNumber p) (queueNumber q) }
+
+-- stream 7 has resource 9 on both queues
+abbrev pub marked7 : QueueType → MarkedDevice
+marked7 q = markedAt q (deviceAfter bothQueues)
 
 -- each step on the marked device that the last one left
 abbrev pub markedAgree : MarkedDevice → List Expected → Bool
 markedAgree d [] = true
 markedAgree d (l ∷ ls) = agrees l (markedStep d (roomy (l .act))) && markedAgree (markedAfter d (roomy (l .act))) ls
 
+-- a queueing of the input's resource, with a size count; it is refused by its mark, or taken where there is none
+abbrev pub askInput : ℕ → Act
+askInput sizes = askQueue 5 0x100 9 77 sizes
+
+abbrev pub markStops : Expected
+markStops = askInput 1 gives failsWith 5 0x0300
+
+abbrev pub markMissing : Expected
+markMissing = askInput 1 gives []
+
+-- a destruction of the stream
+abbrev pub askDestroy : Act
+askDestroy = ask 6 (0x0102 ∷ 7 ∷ [])
+
 pub record MarkCase : Type 0 where
-  -- the mark stands in word 8
-  pub marked : getD (markedEncode marked7) 8 0 ≡ 1
-  -- with it, a size count above 8 is told first, an absent number not at all; the other queue takes a buffer, its clear leaves the mark, and only that of the
-  -- queue itself drops it
-  pub with-mark : markedAgree marked7
-      (askQueue 5 0x100 9 77 9 gives failsWith 5 0x0304
-      ∷ askQueue 5 0x100 8 77 1 gives failsWith 5 0x0300
-      ∷ askQueue 5 0x100 9 77 1 gives failsWith 5 0x0300
-      ∷ askQueue 5 0x101 9 77 1 gives []
-      ∷ askClear 6 0x101 gives (bufferEnds 5 77 1 ++ successTo 6)
-      ∷ askQueue 5 0x100 9 77 1 gives failsWith 5 0x0300
-      ∷ askClear 6 0x100 gives successTo 6
-      ∷ askQueue 5 0x100 9 77 1 gives []
-      ∷ [])
+  -- the mark stands in word 8 or in word 92
+  pub inputWords : map (λ i. getD (markedEncode (marked7 input)) i 0) (8 ∷ 92 ∷ []) ≡ 1 ∷ 0 ∷ []
+  pub outputWords : map (λ i. getD (markedEncode (marked7 output)) i 0) (8 ∷ 92 ∷ []) ≡ 0 ∷ 1 ∷ []
+  -- without the mark the queueing is taken, with it refused, but for that of the other queue
+  pub differ : allAgree (marked7 input .device) (markMissing ∷ []) && markedAgree (marked7 input) (markStops ∷ []) && markedAgree (marked7 output) (markMissing ∷ []) ≡ true
+  -- a wrong length and a size count above 8 are told before the mark, an absent number is not
+  pub listOrder : markedAgree (marked7 input)
+      (ask 5 (0x0105 ∷ 7 ∷ 0x100 ∷ 9 ∷ []) gives failsWith 5 0x0304 ∷ askInput 9 gives failsWith 5 0x0304 ∷ askQueue 5 0x100 8 77 1 gives failsWith 5 0x0300 ∷ [])
       ≡ true
-  -- without it the same queueing is accepted at once
-  pub without-mark : allAgree (marked7 .device) (askQueue 5 0x100 9 77 1 gives [] ∷ []) ≡ true
+  -- a clear of the other queue leaves the mark, and one of the queue itself drops it
+  pub dropped : markedAgree (marked7 input) (askClear 6 0x101 gives successTo 6 ∷ markStops ∷ askClear 6 0x100 gives successTo 6 ∷ markMissing ∷ []) ≡ true
+  -- where the stream is gone the mark does not count, and a new stream has none
+  pub gone : markedAgree (marked7 input) (askDestroy gives successTo 6 ∷ askInput 1 gives failsWith 5 0x0302 ∷ []) ≡ true
+  pub anew : markedAgree (markedAt input fresh) (askCreate gives successTo 1 ∷ askResource 0x100 9 gives successTo 2 ∷ markMissing ∷ []) ≡ true

@@ -20,12 +20,12 @@ module _ {E A : Type 0} where
   tests-cases P fail (hit ⇒ e then ts) fails h = cond-elim P hit (λ _. fails e) (λ z. tests-cases P fail ts fails (h z))
 
   -- what is given where no test hits
-  abbrev pub given : TestList E A → A
-  given (accept v) = v
-  given (hit ⇒ e then ts) = given ts
+  abbrev pub lastOf : TestList E A → A
+  lastOf (accept v) = v
+  lastOf (hit ⇒ e then ts) = lastOf ts
 
   -- a property of each error and of that: it does not matter which tests there are
-  pub tests-all : (P : A → Type 0) (fail : E → A) (ts : TestList E A) → ((e : E) → P (fail e)) → P (given ts) → P (byTests fail ts)
+  pub tests-all : (P : A → Type 0) (fail : E → A) (ts : TestList E A) → ((e : E) → P (fail e)) → P (lastOf ts) → P (byTests fail ts)
   unfolding byTests
   tests-all P fail (accept v) fails h = h
   tests-all P fail (hit ⇒ e then ts) fails h = cond-elim P hit (λ _. fails e) (λ _. tests-all P fail ts fails h)

@@ -337,23 +337,9 @@ fn compare_tables(core: &impl Core, seed: u64) -> Result<u64, Mismatch> {
                 table[at] = value;
                 let read = layout::read(&table, None);
                 probes += 1;
-                // Steps that are refused for something else where the table is valid. Over the
-                // places, each value of a block's word meets each of them.
+                // Over the places, each value of a block's word meets each kind of step.
                 let kind = (turn + at / BLOCK) % 3;
-                let (act, otherwise) = match kind {
-                    0 => (Act::Command { ticket: 1, frame: vec![3, 1, 0, 0, 0, 0, 0] }, 4),
-                    1 => (Act::Drained { stream: 0x1234_5678 }, 5),
-                    _ => {
-                        let report = Report {
-                            stream: 0,
-                            queue_type: INPUT,
-                            resource: 0,
-                            flags: 4,
-                            timestamp: 0,
-                        };
-                        (Act::Finish(report), 6)
-                    }
-                };
+                let (act, otherwise) = refused_anyway(kind);
                 let expected =
                     Outcome { refusal: if read.is_ok() { otherwise } else { 2 }, written: 0 };
                 let mut lent = table.clone();
@@ -389,6 +375,19 @@ fn compare_tables(core: &impl Core, seed: u64) -> Result<u64, Mismatch> {
     assert_eq!(broken_rules, Broken::ALL, "each rule is to be broken");
     assert_eq!(heads.len(), 2 * 3 * 3, "word 0 of each queue, each value and each kind of step");
     Ok(probes)
+}
+
+/// A step of each of three kinds, and the refusal that it meets on a valid table.
+fn refused_anyway(kind: usize) -> (Act, u32) {
+    match kind {
+        0 => (Act::Command { ticket: 1, frame: vec![3, 1, 0, 0, 0, 0, 0] }, 4),
+        1 => (Act::Drained { stream: 0x1234_5678 }, 5),
+        _ => {
+            let report =
+                Report { stream: 0, queue_type: INPUT, resource: 0, flags: 4, timestamp: 0 };
+            (Act::Finish(report), 6)
+        }
+    }
 }
 
 /// Valid tables of each sort: none live, all full, and some with holes and each state.

@@ -118,7 +118,7 @@ fn read_queue(
     let (head, width, height, rate) = (words[0], words[1], words[2], words[3]);
     let passed = match slip {
         Some(Slip::QueueHeadTaken(of)) => of == queue_type,
-        Some(Slip::QueueHeadOf1Taken | Slip::QueueHeadStopsQueueing) => head == 1,
+        Some(Slip::QueueHeadOf1Taken) => head == 1,
         Some(Slip::HighQueueHeadTaken) => head >= 1 << 31,
         _ => false,
     };

@@ -51,7 +51,8 @@ impl Core for OnWords {
             && form == (RESOURCE_QUEUE, 64)
             && head.is_some_and(|head| table[head] != 0);
         let cleared = slips(Slip::ClearSetsQueueHead) && form == (QUEUE_CLEAR, 16);
-        let outcome = on_words(self.0, COMMAND, table, answers, |device, room| {
+        let slip = if stopped { Some(Slip::QueueHeadOf1Taken) } else { self.0 };
+        let outcome = on_words(slip, COMMAND, table, answers, |device, room| {
             if stopped {
                 let answer = [ticket, 8, INVALID_OPERATION, word(frame, 4)];
                 return (0, answer.into_iter().flat_map(u32::to_le_bytes).collect());

@@ -127,8 +127,7 @@ pub enum Slip {
     QueueHeadOf1Taken,
     /// A table is taken in which word 0 of a queue is 2^31 or more.
     HighQueueHeadTaken,
-    /// A table is taken in which word 0 of a queue is 1, but a queueing on that queue is answered
-    /// with 0x0300.
+    /// Where word 0 of a queue is 1, a queueing on that queue is answered with 0x0300.
     QueueHeadStopsQueueing,
     /// A clear leaves word 0 of its queue 1.
     ClearSetsQueueHead,
