@@ -89,7 +89,7 @@ final-unmarked d (s ∷ ss) u = final-unmarked (markedAfter d s) ss (after-unmar
 
 -- Words
 
--- a queue's first word in the words of a place, and in those of a block
+-- a queue's first word stands in its place, and first in its own part of it
 queue-inside : (q : QueueType) → queueStart q < 512
 queue-inside input = lit< tt
 queue-inside output = lit< tt
@@ -105,7 +105,7 @@ spare-zero (occupied n b) q h =
     first-word (placeWords (occupied n b)) (queueStart q) 84 (lit< tt)
     ∙ ap (λ (w : List ℕ). getD w 0 0) (queue-part n b h q)
 
--- zero is written over it
+-- zero written over it changes nothing
 spare-kept : (p : Place) (q : QueueType) → hasAllSlots p ≡ true → set (placeWords p) (queueStart q) 0 ≡ placeWords p
 spare-kept p q h = ap (set (placeWords p) (queueStart q)) (sym (spare-zero p q h)) ∙ set-getD (placeWords p) (queueStart q) 0
 
