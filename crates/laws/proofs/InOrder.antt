@@ -24,11 +24,14 @@ module _ {E A : Type 0} where
   lastOf (accept v) = v
   lastOf (hit ⇒ e then ts) = lastOf ts
 
+  -- a property of that holds whatever the tests say
+  passed-all : (P : A → Type 0) (ts : TestList E A) → P (lastOf ts) → Passed P ts
+  passed-all P (accept v) h = h
+  passed-all P (hit ⇒ e then ts) h = λ _. passed-all P ts h
+
   -- a property of each error and of that: it does not matter which tests there are
   pub tests-all : (P : A → Type 0) (fail : E → A) (ts : TestList E A) → ((e : E) → P (fail e)) → P (lastOf ts) → P (byTests fail ts)
-  unfolding byTests
-  tests-all P fail (accept v) fails h = h
-  tests-all P fail (hit ⇒ e then ts) fails h = cond-elim P hit (λ _. fails e) (λ _. tests-all P fail ts fails h)
+  tests-all P fail ts fails h = tests-cases P fail ts fails (passed-all P ts h)
 
 module _ {E A : Type 0} (fail : E → A) where
   -- no test, a test that hits, and one that does not

@@ -4,6 +4,7 @@ use mathlib.Core.Bool.{true}
 use Prim.Native.Nat.{ℕ, _≤_, _-_, _+_, _*_}
 use native.Mathlib.Omega.{arith}
 use native.Mathlib.Nat.{add-sub-cancel-left}
+use lib.ListN.{getD}
 use borrow.Author.Needs.{needs}
 use borrow.Author.Tests.{eq-eqb, ne-eqb, not-true, not-false}
 use Rattle.laws.specs.Parts.{part}
@@ -23,7 +24,10 @@ shared-slice-read-if1 : tie.Need-shared-slice-read-if1 Inv-loop μ-loop
 shared-slice-read-if1 c = search needs
 
 returns : tie.Need-returns Inv-loop μ-loop
-returns c = sym (queue-test _ (c .before .before .before .pre) ∙ rw (ne-eqb _ 0 (c .if1 .taken)))
+returns c =
+    let start = c .before .before .before in
+    let used : (getD (start .args .q .now) 0 0 ≡ 0 → ⊥) = c .if1 .taken in
+    sym (queue-test _ (start .pre) ∙ rw (ne-eqb _ 0 used))
 
 loop-holds : tie.Need-loop-holds Inv-loop μ-loop
 loop-holds c = (search needs, all-none (λ j. slotStands (part (4 + 5 * j) 5 (c .before .before .before .args .q .now))))
