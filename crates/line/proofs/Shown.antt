@@ -26,7 +26,7 @@ use Rattle.model.specs.Promises.{asWritten}
 use Rattle.model.specs.Condition3.{Run}
 use Rattle.model.proofs.Condition3.{rewritten-written}
 use Rattle.model.proofs.ReadBack.{read-back}
-use Rattle.model.proofs.Isolation.{step-runs}
+use Rattle.model.proofs.Seen.{step-runs}
 use Rattle.model.proofs.Tables.{not-refused, valid-refusal, same-run}
 use Rattle.line.specs.Hex.{isHex, hexBytes}
 use Rattle.line.specs.Line.{Line, stepLine, refusedLine, commandIn, finishIn, drainedIn, frameIn, lineOf}

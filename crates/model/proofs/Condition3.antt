@@ -26,7 +26,8 @@ use Rattle.model.proofs.ReadBack.{error-is, read-back}
 use Rattle.model.proofs.WellFormed.{GoodSelf, well-record, well-fresh, stays-well-formed}
 use Rattle.model.proofs.LedgerView.{View, awaitedTimestamp, viewOf, viewAt, isTo, buffersIn, awaitedBuffer, ticketsIn, viewAfter, ticketsCompleted, view-own, view-other, tickets-completed}
 use Rattle.model.proofs.Fits.{Sane, holding, fails, known, knownIf, answerTickets, FitsAct, serve-fits}
-use Rattle.model.proofs.Isolation.{step-runs, step-refused, own-record, other-record, roomRefusal, isolated}
+use Rattle.model.proofs.Seen.{step-runs, step-refused, own-record, other-record, roomRefusal}
+use Rattle.model.proofs.Isolation.{isolated}
 
 -- What an event shows of a step
 

@@ -25,7 +25,7 @@ use Rattle.model.specs.Promises.{isLive, FullAtEight}
 use Rattle.model.proofs.Rules.{by-type}
 use Rattle.model.proofs.WellFormed.{well-places}
 use Rattle.model.proofs.Origins.{step-cases}
-use Rattle.model.proofs.Isolation.{notFull, tellsFull}
+use Rattle.model.proofs.Seen.{notFull, tellsFull}
 
 abbrev Quiet : Reply → Type 0
 Quiet v = tellsFull v ≡ false

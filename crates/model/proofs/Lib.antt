@@ -4,6 +4,7 @@ pub mod Rules
 pub mod LedgerView
 pub mod Fits
 pub mod Places
+pub mod Seen
 pub mod Isolation
 pub mod Origins
 pub mod Full

@@ -19,7 +19,7 @@ use Rattle.model.specs.Steps.{Act, command, finish, drained, Step, strea
 use Rattle.model.specs.Tables.{Layout, Lawful, valid, effect}
 use Rattle.model.specs.Promises.{listed, OnlyListed, tableGood, NoTableRefusal}
 use Rattle.model.proofs.Origins.{live-cases, command-cases, finish-cases, drained-cases}
-use Rattle.model.proofs.Isolation.{step-runs, step-refused, roomRefusal}
+use Rattle.model.proofs.Seen.{step-runs, step-refused, roomRefusal}
 use Rattle.model.proofs.Tables.{same-run}
 
 -- a command with a header is refused by no number

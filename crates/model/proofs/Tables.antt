@@ -22,7 +22,7 @@ use Rattle.model.specs.Promises.{FreshShort, FreshLong}
 use Rattle.model.specs.Condition3.{Run, ownEvents, stepsOf, Condition3, onDevice, onTable, OnTables}
 use Rattle.model.proofs.WellFormed.{well-fresh, stays-well-formed}
 use Rattle.model.proofs.Condition3.{condition3}
-use Rattle.model.proofs.Isolation.{step-runs, step-refused, roomRefusal}
+use Rattle.model.proofs.Seen.{step-runs, step-refused, roomRefusal}
 
 -- The host's first tests
 

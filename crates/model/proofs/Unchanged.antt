@@ -28,7 +28,7 @@ use Rattle.model.proofs.WellFormed.{well-places, stays-well-formed}
 use Rattle.model.proofs.ReadBack.{read-back}
 use Rattle.model.proofs.Room.{fits-room}
 use Rattle.model.proofs.Fits.{fails, acceptedReply, Rejected, byHost, byError, FitsAct, serve-fits}
-use Rattle.model.proofs.Isolation.{step-runs}
+use Rattle.model.proofs.Seen.{step-runs}
 use Rattle.model.proofs.Condition3.{sane-record, step-stream-is, accepted-is}
 use Rattle.model.proofs.Tables.{Lent, not-refused, valid-refusal, words-valid}
 
