@@ -22,20 +22,20 @@ use Rattle.laws.proofs.Tests.{and-left, and-right, ne-true}
 use Rattle.laws.proofs.Lists.{all-getD}
 use Rattle.laws.proofs.Parts.{zero-at}
 use Rattle.model.specs.Numbers.{tableWords, answerRoom}
-use Rattle.model.specs.Device.{QueueType, input, output, Place, vacant, occupied, Device, fresh, putRecord}
+use Rattle.model.specs.Device.{QueueType, input, output, Place, vacant, occupied, Device, fresh, putRecord, isSpent, spend}
 use Rattle.model.specs.Frames.{ruleOf, queueNamed, queueType, streamId}
 use Rattle.model.specs.Answers.{responseBytes, readFrom}
 use Rattle.model.specs.Commands.{onCreate, onDestroy, onCreateResource, onQueue, onClear, onCommand}
 use Rattle.model.specs.Steps.{Act, command, finish, drained, Step, streamOf, serve, DeviceReply, hostRefusal, stepOn, Event, eventOf, eventsOf, final, accepted}
 use Rattle.model.specs.Tables.{valid, effect}
 use Rattle.model.proofs.WellFormed.{well-fresh}
-use Rattle.model.proofs.Tables.{same-events, same-table, final-well}
+use Rattle.model.proofs.Tables.{valid-device, valid-used, same-events, same-table, final-well}
 use Rattle.queue.specs.Words.{queueWords}
 use Rattle.table.specs.Blocks.{queueStart, headWords, placeWords, blocks, behind, encode, decode, layout}
 use Rattle.table.specs.Search.{placeAt, hasAllSlots}
 use Rattle.clear_mark.specs.ClearMark.{Marks, MarkedDevice, markOf, markHits, markedStep, marksAfter, markedAfter, markedEvents, markedFinal, markedFresh, markedWords, markedEncode, NoClearInProgress, MarkRefused, MarkCase}
 use Rattle.table.proofs.Records.{queue-part, block-part}
-use Rattle.table.proofs.Theorems.{meets-laws, well-sized, well-eight, valid-well, valid-words}
+use Rattle.table.proofs.Theorems.{meets-laws, well-sized, well-eight}
 
 -- no mark stands
 abbrev Unmarked : Marks → Type 0
@@ -149,14 +149,14 @@ module _ (t : List ℕ) (v : valid layout t ≡ true) (k : ℕ) (q : QueueType) 
   read = decode (take tableWords t)
 
   block : part (512 * k) 512 (take tableWords t) ≡ placeWords (placeAt k (read .places))
-  block = block-part read (well-sized read (valid-well t v)) (well-eight read (valid-well t v)) (take tableWords t) k h (valid-words t v)
+  block = block-part read (well-sized read (valid-device layout t v)) (well-eight read (valid-device layout t v)) (take tableWords t) k h (valid-used layout t v)
 
   valid-spare : getD t (512 * k + queueStart q) 0 ≡ 0
   valid-spare =
       sym (getD-take tableWords t (512 * k + queueStart q) 0 (omega (arith, queue-inside q)))
       ∙ sym (getD-take 512 (drop (512 * k) (take tableWords t)) (queueStart q) 0 (queue-inside q) ∙ getD-drop (512 * k) (take tableWords t) (queueStart q) 0)
       ∙ ap (λ (w : List ℕ). getD w (queueStart q) 0) block
-      ∙ spare-zero (placeAt k (read .places)) q (all-getD hasAllSlots (read .places) k vacant refl (well-sized read (valid-well t v)))
+      ∙ spare-zero (placeAt k (read .places)) q (all-getD hasAllSlots (read .places) k vacant refl (well-sized read (valid-device layout t v)))
 
 pub mark-refused : MarkRefused
 unfolding effect hostRefusal
@@ -167,5 +167,5 @@ mark-refused t a room k q long roomy h marked =
 -- With a mark
 
 pub mark-case : MarkCase
-unfolding within same insertBy below notBelow field littleEndian classOf utf8After utf8 nulAt goodTag fresh putRecord ruleOf queueNamed responseBytes readFrom byTests onCreate onDestroy onCreateResource onQueue onClear onCommand streamOf serve hostRefusal stepOn accepted pieces zeros headWords queueWords placeWords behind markHits markedStep marksAfter markedWords markedEncode
+unfolding within same insertBy below notBelow field littleEndian classOf utf8After utf8 nulAt goodTag fresh putRecord isSpent spend ruleOf queueNamed responseBytes readFrom byTests onCreate onDestroy onCreateResource onQueue onClear onCommand streamOf serve hostRefusal stepOn accepted pieces zeros headWords queueWords placeWords behind markHits markedStep marksAfter markedWords markedEncode
 mark-case = record { inputWords = refl; outputWords = refl; differ = refl; listOrder = refl; dropped = refl; gone = refl; anew = refl }

@@ -18,7 +18,7 @@ use Rattle.model.specs.Steps.{Act, command, finish, drained, Step, DeviceReply,
 use Rattle.model.specs.Ledger.{isType, stepStream, stepTicket}
 use Rattle.model.specs.WellFormed.{goodSteps}
 use Rattle.model.specs.Tables.{untouched, effect, freshen, tableEvents, tableFinal}
-use Rattle.model.specs.Cases.{Expected, _gives_, roomy, agrees, allAgree, deviceAfter, ask, askCreate, askResource, askQueue, askClear, bothQueues, successTo, failsWith}
+use Rattle.model.specs.Cases.{Expected, _gives_, roomy, agrees, allAgree, deviceAfter, ask, askCreate, askDestroy, askResource, askQueue, askClear, bothQueues, successTo, failsWith}
 use Rattle.table.specs.Blocks.{placeSize, queueStart, placeWords, behind, layout}
 
 -- whether the mark of a queue of a stream stands
@@ -141,10 +141,6 @@ markStops = askInput 1 gives failsWith 5 0x0300
 
 abbrev pub markMissing : Expected
 markMissing = askInput 1 gives []
-
--- a destruction of the stream
-abbrev pub askDestroy : Act
-askDestroy = ask 6 (0x0102 ∷ 7 ∷ [])
 
 pub record MarkCase : Type 0 where
   -- the mark stands in word 8 or in word 92

@@ -39,15 +39,15 @@ module _ (f : List ℕ) (around : Surroundings) (n t : ℕ) where
   pub not-live : (k : LiveCommand) (self : Option Stream) → verdictFor f ≡ right (live k) → self ≡ none → serve around n self (command t f) ≡ fail (asks self) invalidStream
   not-live k self h new = fit (live k) self h ∙ ap (onStream around (asks self) (live k)) new
 
-  -- a creation for a live number
+  -- a creation for a number that may not be taken
   module _ (self : Option Stream) (h : verdictFor f ≡ right create) where
-    pub create-live : (b : Stream) → self ≡ some b → serve around n self (command t f) ≡ fail (asks self) invalidStream
-    create-live b has = fit create self h ∙ ap (onStream around (asks self) create) has
+    pub create-unusable : around .unusable ≡ true → serve around n self (command t f) ≡ fail (asks self) invalidStream
+    create-unusable taken = fit create self h ∙ rw taken
 
-    -- and for one that is not: a bad frame, no place, or a new stream
-    module _ (new : self ≡ none) where
+    -- and for one that may: a bad frame, no place, or a new stream
+    module _ (usable : around .unusable ≡ false) where
       creation : serve around n self (command t f) ≡ onCreate around (asks self)
-      creation = fit create self h ∙ ap (onStream around (asks self) create) new
+      creation = fit create self h ∙ rw usable
 
       pub create-bad : goodCreation f ≡ false → serve around n self (command t f) ≡ fail (asks self) invalidParameter
       create-bad bad = creation ∙ creation-bad around (asks self) bad

@@ -1,6 +1,6 @@
 -- What serving a step comes to on the words of a device: the words stay, or one block of them is changed.
 use mathlib.Core.Path.{_≡_, refl, sym, ap, _∙_, subst}
-use mathlib.Core.Bool.{true}
+use mathlib.Core.Bool.{Bool, true, false}
 use mathlib.Core.Option.{Option, none, some}
 use mathlib.Core.List.{List, [], _∷_}
 use Prim.Native.Nat.{ℕ, _+_, _*_, _-_, _<_}
@@ -9,22 +9,26 @@ use lib.ListN.{length, take}
 use Rattle.laws.specs.Parts.{part, withPart}
 use Rattle.laws.specs.Lists.{allOf}
 use Rattle.laws.specs.Stores.{Wrote}
-use Rattle.laws.proofs.Tests.{and-right}
+use Rattle.laws.proofs.Tests.{never, and-right}
 use Rattle.laws.proofs.Lists.{all-getD}
 use Rattle.laws.proofs.Stores.{wrote-none}
-use Rattle.model.specs.Device.{Stream, Place, vacant, occupied, Device, recordOf, noPlace, place, withPlaces, putBack}
+use Rattle.model.specs.Numbers.{streamNumbers}
+use Rattle.model.specs.Device.{Stream, Place, vacant, occupied, Device, recordOf, noPlace, place, spend, putBack}
 use Rattle.model.specs.Answers.{ErrorCode, code, success, failure, responseType}
 use Rattle.model.specs.Replies.{Reply, refuse, reply, fail}
 use Rattle.model.specs.Commands.{Surroundings}
 use Rattle.model.specs.Steps.{Act, command, around, serve}
 use Rattle.model.specs.WellFormed.{goodStream, goodPlace, u32}
-use Rattle.model.proofs.Places.{put-self}
-use Rattle.model.proofs.WellFormed.{GoodPlaces, well-places}
+use Rattle.model.proofs.Seen.{NotAgain}
+use Rattle.model.proofs.WellFormed.{GoodPlaces, well-places, not-again}
+use Rattle.model.proofs.Unchanged.{put-back-same}
 use Rattle.model.proofs.Refusals.{command-answers}
+use Rattle.table.specs.Spent.{spentSize, spentWords, decodeSpent}
 use Rattle.table.specs.Blocks.{placeWords, blocks, blocksSize, encode}
 use Rattle.table.specs.Search.{findStream, findVacant, hasAllSlots}
-use Rattle.table.proofs.Theorems.{well-eight, well-sized}
-use Rattle.table.proofs.Records.{blocks-front, block-part, block-lent}
+use Rattle.table.proofs.Theorems.{well-eight, well-sized, well-numbers}
+use Rattle.table.proofs.Bits.{decode-spent}
+use Rattle.table.proofs.Records.{withSpent, blocks-front, spent-part, spent-lent, block-part, block-lent}
 use Rattle.table.proofs.Bridge.{LiveAt, stream-found, stream-missing, stream-put, VacantAt, vacant-found, vacant-missing, vacant-put}
 use Rattle.queue.specs.Found.{foundAt}
 use Rattle.queue.specs.declared.Found.{Found}
@@ -49,10 +53,23 @@ module _ {words : List ℕ} {d : Device} (h : Encodes words d) where
   pub looked : {A : Type 0} (P : List Place → A) (r : A) → ((ps : List Place) → allOf hasAllSlots ps ≡ true → take blocksSize words ≡ blocks ps → r ≡ P ps) → r ≡ P (d .places)
   looked P r look = look (d .places) sizes (ap (take blocksSize) (h .held) ∙ blocks-front d sizes eight)
 
+  -- and the spent numbers
+  pub numbers-read : decodeSpent (part blocksSize spentSize words) ≡ d .spent
+  numbers-read =
+      ap (λ (w : List ℕ). decodeSpent (part blocksSize spentSize w)) (h .held) ∙ ap decodeSpent (spent-part d sizes eight) ∙ decode-spent (d .spent) (well-numbers d (h .good))
+
+  -- a number that may be taken is not live
+  pub usable-new : (n : ℕ) → around d n .unusable ≡ false → recordOf n (d .places) ≡ none
+  usable-new n e = of (recordOf n (d .places)) (not-again n d (h .good))
+    where
+      of : (r : Option Stream) → NotAgain (around d n) r → r ≡ none
+      of none u = refl
+      of (some b) u = never (sym u ∙ e)
+
   -- The words stay
 
   stays : (n : ℕ) → words ≡ encode (putBack n (recordOf n (d .places)) d)
-  stays n = h .held ∙ ap (λ ps. encode (withPlaces ps d)) (sym (put-self n (d .places) (good-places .apart)))
+  stays n = h .held ∙ ap encode (sym (put-back-same d (h .good) n))
 
   -- an error to a command
   pub error-served : {room room′ : List ℕ} {written : ℕ} (n t : ℕ) (f : List ℕ) (e : ErrorCode)
@@ -100,28 +117,35 @@ module _ {words : List ℕ} {d : Device} (h : Encodes words d) where
           refusal-is = y .refusal-is;
           words =
               block-lent d sizes eight words k k8 (h .held) ys (place n (replyOf d n a .next)) (λ _. y .replied .words)
-              ∙ ap (λ ps. encode (withPlaces ps d)) (sym (stream-put n k (d .places) at (good-places .apart) (replyOf d n a .next)));
+              ∙ ap encode (sym (stream-put n k d at (good-places .apart) (replyOf d n a .next)));
           bytes = y .replied .bytes;
         })
         x
 
-  -- A new stream is put into the lowest vacant place
+  -- A new stream is put into the lowest vacant place, and its number is spent
 
   module _ (n k : ℕ) (k8 : k < 8) (new : recordOf n (d .places) ≡ none) (found : findVacant (d .places) ≡ some k) where
     free : VacantAt k (d .places)
     free = vacant-found (d .places) k found
 
-    pub in-vacant : {ys room room′ : List ℕ} {written : ℕ} (t : ℕ) (f : List ℕ) (b : Stream)
-        → replyOf d n (command t f) ≡ reply (answerTo t n success ∷ []) (some b)
-        → (part (512 * k) (512 * k + 512 - 512 * k) words ≡ placeWords vacant → ys ≡ placeWords (occupied n b))
-        → Wrote room room′ 0 written (plainBytes t (responseType success) n) → Served d n (command t f) (withPart (512 * k) (512 * k + 512 - 512 * k) words ys) room room′ 0 written
-    in-vacant {ys} t f b is made w = record {
-      refusal-is = sym (ap (λ (v : Reply). v .refusal) is);
-      words = rw is
-          (block-lent d sizes eight words k k8 (h .held) ys (occupied n b) (λ e. made (e ∙ ap placeWords (free .at)))
-          ∙ ap (λ ps. encode (withPlaces ps d)) (sym (vacant-put n k b (d .places) free new)));
-      bytes = rw is (wrote-plain t n success refl w);
-    }
+    pub stream-added : {numbers ys : List ℕ} (b : Stream)
+        → ((s : List Bool) → length s ≡ streamNumbers → part blocksSize spentSize words ≡ spentWords s → numbers ≡ spentWords (spend n s))
+        → (part (512 * k) (512 * k + 512 - 512 * k) (withPart blocksSize spentSize words numbers) ≡ placeWords vacant → ys ≡ placeWords (occupied n b))
+        → withPart (512 * k) (512 * k + 512 - 512 * k) (withPart blocksSize spentSize words numbers) ys ≡ encode (putBack n (some b) d)
+    stream-added {numbers} {ys} b spends made =
+        let s = spend n (d .spent) in
+        let left : withPart blocksSize spentSize words numbers ≡ encode (withSpent s d) =
+        spent-lent d sizes eight words numbers s (h .held) (spends (d .spent) (well-numbers d (h .good))) in
+        block-lent (withSpent s d) sizes eight _ k k8 left ys (occupied n b) (λ e. made (e ∙ ap placeWords (free .at)))
+        ∙ ap encode (sym (vacant-put n k b d free new))
+
+  pub created-served : {left room room′ : List ℕ} {written : ℕ} (n t : ℕ) (f : List ℕ) (b : Stream) → replyOf d n (command t f) ≡ reply (answerTo t n success ∷ []) (some b)
+      → left ≡ encode (putBack n (some b) d) → Wrote room room′ 0 written (plainBytes t (responseType success) n) → Served d n (command t f) left room room′ 0 written
+  created-served n t f b is w bytes = record {
+    refusal-is = sym (ap (λ (v : Reply). v .refusal) is);
+    words = rw is w;
+    bytes = rw is (wrote-plain t n success refl bytes);
+  }
 
 -- the stream number as the frame has it
 pub of-stream : {d : Device} {n m : ℕ} {a : Act} {left room room′ : List ℕ} {refusal written : ℕ} → n ≡ m → Served d n a left room room′ refusal written
@@ -146,9 +170,6 @@ module _ {words : List ℕ} {d : Device} (h : Encodes words d) {r : Found} where
 
     pub was-missing : r ≡ Nothing → recordOf n (d .places) ≡ none
     was-missing e = stream-missing n (d .places) (sym (look d h) ∙ ap foundAt e)
-
-    pub was-live : (k : ℕ) → r ≡ At k → (b : Stream) × (recordOf n (d .places) ≡ some b)
-    was-live k e = let a = stream-found n (d .places) k (was-found k e) in (a .stream, a .known)
 
   module _ (look : (d : Device) → Encodes words d → foundAt r ≡ findVacant (d .places)) where
     pub was-vacant : (k : ℕ) → r ≡ At k → findVacant (d .places) ≡ some k

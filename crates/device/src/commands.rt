@@ -11,7 +11,9 @@ ghost use Rattle.protocol.specs.QueueTypes.{queueTypeOf};
 ghost use Rattle.frame.specs.Meant.{queueCommandOf, liveCommandOf, meant, right, queueLength, leastLength, verdictFor};
 ghost use Rattle.stream.specs.Replied.{BlockOf, LiveBlock, requestTo, Replied};
 ghost use Rattle.device.specs.Served.{Encodes, DeviceWords, Served};
+use crate::places::add_stream;
 use crate::places::live_place;
+use crate::places::unusable;
 use crate::places::vacant_place;
 use frame::Checked;
 use frame::Command;
@@ -61,15 +63,14 @@ fn carry_out(
     to_live(t, live, stream, ticket, frame, room)
 }
 
-// 0x0101: a new stream in the lowest vacant place.
+// 0x0101: a new stream in the lowest vacant place, under a number never used before.
 fn create(t: &mut [u32], stream: u32, ticket: u32, frame: &[u8], room: &mut [u8]) -> usize
     requires { ⌜ (length (now t) ≡ tableWords) × (verdictFor (now frame) ≡ right create) × (88 ≤ length (now frame)) × (1056 ≤ length (now room)) ⌝ }
     ensures { λ r. ⌜ ((d : Device) → Encodes (now (t .entry)) d → Served d stream (command ticket (now (frame .entry))) (now (t .exit)) (now (room .entry)) (now (room .exit)) 0 r) ⌝ }
 {
-    let found = live_place(t, stream);
-    let Found::Nothing = found else {
+    if unusable(t, stream) {
         return answer::put_plain(room, 0, ticket, INVALID_STREAM, stream);
-    };
+    }
     if !frame::creation_good(frame) {
         return answer::put_plain(room, 0, ticket, INVALID_PARAMETER, stream);
     }
@@ -77,9 +78,8 @@ fn create(t: &mut [u32], stream: u32, ticket: u32, frame: &[u8], room: &mut [u8]
     let Found::At(k) = place else {
         return answer::put_plain(room, 0, ticket, OUT_OF_MEMORY, stream);
     };
-    let at = PLACE_WORDS * k;
     let format = frame::coded_format(frame);
-    table::new_stream(&mut t[at..at + PLACE_WORDS], stream, format);
+    add_stream(t, k, stream, format);
     answer::put_plain(room, 0, ticket, OK, stream)
 }
 

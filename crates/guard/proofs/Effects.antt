@@ -13,10 +13,9 @@ use Rattle.model.specs.Device.{Device}
 use Rattle.model.specs.Answers.{bytesOf}
 use Rattle.model.specs.Steps.{Act, streamOf, hostRefusal, performOf}
 use Rattle.model.specs.Tables.{Effect, valid, carriedOut, effect}
-use Rattle.model.proofs.Tables.{Lent, not-refused}
+use Rattle.model.proofs.Tables.{Lent, not-refused, valid-device, valid-used}
 use Rattle.model.proofs.Unchanged.{writes-at-most}
 use Rattle.table.specs.Blocks.{decode, layout}
-use Rattle.table.proofs.Theorems.{valid-well, valid-words}
 use Rattle.device.specs.Served.{Encodes, replyOf, Served}
 
 -- refused by the host's first tests
@@ -40,7 +39,7 @@ module _ (t room : List ℕ) (a : Act) {k : ℕ} (e : k ≡ hostRefusal (length 
   room-bytes = used-lent .spacious
 
   pub stands : Encodes (take tableWords t) deviceIn
-  stands = record { good = valid-well t (used-lent .good); held = valid-words t (used-lent .good) }
+  stands = record { good = valid-device layout t (used-lent .good); held = valid-used layout t (used-lent .good) }
 
   -- what it comes to, by the stream that is named
   runs : (o : Option ℕ) → streamOf a ≡ o → effect layout t a room ≡ carriedOut layout (performOf deviceIn a o) t room

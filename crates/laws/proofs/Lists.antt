@@ -10,7 +10,7 @@ use lib.ListN.{length, take, drop, getD}
 use lib.Seq.{take-suc}
 use lib.Dec.{ltb, eqb}
 use borrow.Author.Tests.{eqb-true, ltb-true, ltb-false, lt-ltb, le-ltb, eqb-false, eq-eqb, ne-eqb, not-true}
-use Rattle.laws.specs.Lists.{keep, anyOf, allOf, howMany, isEmpty, isNone, total}
+use Rattle.laws.specs.Lists.{keep, anyOf, allOf, Each, howMany, isEmpty, isNone, total}
 use Rattle.laws.specs.Ascending.{below, notBelow, insertBy, ascending}
 use Rattle.laws.proofs.Tests.{both, and-left, and-right}
 
@@ -26,10 +26,6 @@ cond-elim P false a b = b refl
 
 -- what holds of every element of a list
 module _ {A : Type 0} where
-  abbrev pub Each : (A → Type 0) → List A → Type 0
-  Each P [] = Unit {0}
-  Each P (x ∷ l) = P x × Each P l
-
   pub each-map : (P Q : A → Type 0) → ((x : A) → P x → Q x) → (l : List A) → Each P l → Each Q l
   each-map P Q h [] e = tt
   each-map P Q h (x ∷ l) e = (h x (e .0), each-map P Q h l (e .1))

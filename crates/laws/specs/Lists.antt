@@ -21,6 +21,11 @@ module _ {A : Type 0} where
   allOf p [] = true
   allOf p (x ∷ xs) = p x && allOf p xs
 
+  -- each element has the property
+  abbrev pub Each : (A → Type 0) → List A → Type 0
+  Each P [] = Unit {0}
+  Each P (x ∷ xs) = P x × Each P xs
+
   -- how many elements pass a test
   abbrev pub howMany : (A → Bool) → List A → ℕ
   howMany p [] = 0

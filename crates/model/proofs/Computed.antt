@@ -7,7 +7,7 @@ use Rattle.laws.specs.InOrder.{byTests}
 use Rattle.field.specs.Field.{field, littleEndian}
 use Rattle.tag.specs.Utf8.{classOf, utf8After, utf8}
 use Rattle.tag.specs.Tag.{nulAt, goodTag}
-use Rattle.model.specs.Device.{fresh, putRecord}
+use Rattle.model.specs.Device.{fresh, putRecord, isSpent, spend}
 use Rattle.model.specs.Frames.{ruleOf, queueNamed}
 use Rattle.model.specs.Answers.{responseBytes, readFrom}
 use Rattle.model.specs.Commands.{onCreate, onDestroy, onDrain, onCreateResource, onQueue, onDestroyAll, onClear, parameterWords, onGet, onSet, onCommand}
@@ -18,9 +18,9 @@ use Rattle.model.specs.WellFormed.{u32, u64, wellFormed}
 use Rattle.model.specs.Cases.{TenCases, MoreCases}
 
 pub ten-cases : TenCases
-unfolding within same insertBy below notBelow field littleEndian classOf utf8After utf8 nulAt goodTag fresh putRecord ruleOf queueNamed responseBytes byTests onCreate onDestroy onDrain onCreateResource onQueue onDestroyAll onClear parameterWords onGet onSet onCommand onFinish onDrained streamOf serve hostRefusal stepOn
+unfolding within same insertBy below notBelow field littleEndian classOf utf8After utf8 nulAt goodTag fresh putRecord isSpent spend ruleOf queueNamed responseBytes byTests onCreate onDestroy onDrain onCreateResource onQueue onDestroyAll onClear parameterWords onGet onSet onCommand onFinish onDrained streamOf serve hostRefusal stepOn
 ten-cases = refl
 
 pub more-cases : MoreCases
-unfolding within same insertBy below notBelow field littleEndian classOf utf8After utf8 nulAt goodTag fresh putRecord ruleOf queueNamed responseBytes readFrom byTests onCreate onDestroy onDrain onCreateResource onQueue onDestroyAll onClear parameterWords onGet onSet onCommand onFinish onDrained streamOf serve hostRefusal stepOn accepted ownerOf belongs outOfMemoryAt awaitedBy completes inOrder ownTickets u32 u64 wellFormed
-more-cases = record { owners = refl; accepts = refl; last-error = refl; out-of-memory = refl; left-pending = refl; record-pending = refl; completed-in-order = refl; record-rules = refl; any-finish = refl }
+unfolding within same insertBy below notBelow field littleEndian classOf utf8After utf8 nulAt goodTag fresh putRecord isSpent spend ruleOf queueNamed responseBytes readFrom byTests onCreate onDestroy onDrain onCreateResource onQueue onDestroyAll onClear parameterWords onGet onSet onCommand onFinish onDrained streamOf serve hostRefusal stepOn accepted ownerOf belongs outOfMemoryAt awaitedBy completes inOrder ownTickets u32 u64 wellFormed
+more-cases = record { spent-numbers = refl; owners = refl; accepts = refl; last-error = refl; out-of-memory = refl; left-pending = refl; record-pending = refl; completed-in-order = refl; record-rules = refl; any-finish = refl }

@@ -23,7 +23,7 @@ use Rattle.model.specs.Ledger.{Noted, noted, Awaited, toBuffer, toDrain,
 use Rattle.model.specs.Promises.{asWritten}
 use Rattle.model.specs.Condition3.{older, InWholeAnswers, OnDevices}
 use Rattle.model.proofs.ReadBack.{error-is, read-back}
-use Rattle.model.proofs.WellFormed.{GoodSelf, well-record, well-fresh, stays-well-formed}
+use Rattle.model.proofs.WellFormed.{GoodSelf, not-again, well-record, well-fresh, stays-well-formed}
 use Rattle.model.proofs.LedgerView.{View, awaitedTimestamp, viewOf, viewAt, isTo, buffersIn, awaitedBuffer, ticketsIn, viewAfter, ticketsCompleted, view-own, view-other, tickets-completed}
 use Rattle.model.proofs.Fits.{Sane, holding, fails, known, knownIf, answerTickets, FitsAct, serve-fits}
 use Rattle.model.proofs.Seen.{step-runs, step-refused, own-record, other-record, roomRefusal}
@@ -104,7 +104,7 @@ module _ (k : ℕ) (d : Device) (l : Ledger) (s : Step) (g : Agree d l) (m : goo
     v = serve (around d n) n (recordOf n (d .places)) a
 
     fit : FitsAct n a (recordOf n (d .places)) v
-    fit = serve-fits (around d n) n (recordOf n (d .places)) a (sane-record n d (g .well))
+    fit = serve-fits (around d n) n (recordOf n (d .places)) a (not-again n d (g .well)) (sane-record n d (g .well))
 
     abbrev z : Bool
     z = eqb (v .refusal) 0

@@ -8,10 +8,10 @@ use Prim.Native.Nat.{ℕ}
 use lib.ListN.{length}
 use lib.Dec.{eqb, ltb}
 use borrow.Author.Tests.{not-false}
-use Rattle.laws.specs.Lists.{keep, anyOf, isEmpty, toList}
+use Rattle.laws.specs.Lists.{keep, anyOf, Each, isEmpty, toList}
 use Rattle.laws.specs.Ascending.{insertBy}
 use Rattle.laws.proofs.Tests.{never}
-use Rattle.laws.proofs.Lists.{cond-elim, eqb-same, eqb-sym, keep-ascending, keep-const, none-is, any-append, empty-is, Each, each-map}
+use Rattle.laws.proofs.Lists.{cond-elim, eqb-same, eqb-sym, keep-ascending, keep-const, none-is, any-append, empty-is, each-map}
 use Rattle.laws.proofs.InOrder.{tests-cases, tests-all}
 use Rattle.field.specs.Field.{field}
 use Rattle.model.specs.Device.{QueueType, input, output, queued, dequeued, Queue, Stream, newStream, queueOf, withQueue, withDrain, withSlots, Buffer, queuedIn, byResource, buffers, bufferOf, present, addResource, setState, freeAll}
@@ -25,6 +25,7 @@ use Rattle.model.specs.Ledger.{Awaited, toBuffer, toDrain, awaitedBy, is
 use Rattle.model.proofs.Slots.{byRes, Distinct, queued-stop, queued-free, queued-add, queued-finish, queued-only, queued-more, isRes}
 use Rattle.model.proofs.Origins.{named-cases}
 use Rattle.model.proofs.Rules.{by-type, named-number}
+use Rattle.model.proofs.Seen.{NotAgain}
 use Rattle.model.proofs.LedgerView.{View, pick, bufferTickets, ticketsOf, viewAfter, ticketsCompleted}
 
 -- resource numbers are distinct
@@ -402,9 +403,9 @@ module _ (around : Surroundings) (n t : ℕ) (f : List ℕ) where
       → OfRule self (l .type) (some l)
   of-rule self l h = cond-elim (FitsType (l .type) n t f self) (wrongLength (l .lengthRule) (length f)) (λ _. fail-type (l .type) n t f self invalidParameter) (λ _. h)
 
-  create-rule : (self : Option Stream) → FitsType 0x0101 n t f self (onStream around (request n t self f) create self)
-  create-rule none = create-fits around n t f
-  create-rule (some b) = fail-type 0x0101 n t f (some b) invalidStream
+  create-rule : (self : Option Stream) → NotAgain around self → FitsType 0x0101 n t f self (onStream around (request n t self f) create self)
+  create-rule none u = cond-elim (FitsType 0x0101 n t f none) (around .unusable) (λ _. fail-type 0x0101 n t f none invalidStream) (λ _. create-fits around n t f)
+  create-rule (some b) u = simp u (fail-type 0x0101 n t f (some b) invalidStream)
 
   live-rule : (ty : ℕ) (k : LiveCommand) (self : Option Stream) → Sane self
       → ((b : Stream) → Sane (some b) → FitsType ty n t f (some b) (onLive k (request n t (some b) f) b)) → FitsType ty n t f self (onStream around (request n t self f) (live k) self)
@@ -418,10 +419,10 @@ module _ (around : Surroundings) (n t : ℕ) (f : List ℕ) where
   OfStream : Option Stream → CommandRule → Type 0
   OfStream self l = FitsType (l .type) n t f self (onStream around (request n t self f) (l .command) self)
 
-  streams : (self : Option Stream) (s : Sane self) → Each (OfStream self) commands
+  streams : (self : Option Stream) → NotAgain around self → Sane self → Each (OfStream self) commands
   unfolding OfStream
-  streams self s = (
-    create-rule self,
+  streams self u s = (
+    create-rule self u,
     (
       live-rule 0x0102 destroy self s (λ b _. destroy-fits (request n t (some b) f) b),
       (
@@ -455,9 +456,9 @@ module _ (around : Surroundings) (n t : ℕ) (f : List ℕ) where
     ),
   )
 
-  command-fits : (self : Option Stream) → Sane self → (ty : ℕ) → OfRule self ty (ruleOf ty)
+  command-fits : (self : Option Stream) → NotAgain around self → Sane self → (ty : ℕ) → OfRule self ty (ruleOf ty)
   unfolding OfStream
-  command-fits self s = by-type (OfRule self) (each-map (OfStream self) (λ l. OfRule self (l .type) (some l)) (of-rule self) commands (streams self s)) (λ ty. fail-type ty n t f self invalidOperation)
+  command-fits self u s = by-type (OfRule self) (each-map (OfStream self) (λ l. OfRule self (l .type) (some l)) (of-rule self) commands (streams self u s)) (λ ty. fail-type ty n t f self invalidOperation)
 
 -- Reports
 
@@ -506,8 +507,8 @@ drained-in n (some b) = owing (b .draining) refl
 abbrev pub FitsAct : ℕ → Act → Option Stream → Reply → Type 0
 FitsAct n a = Fits (completes a) (awaitedBy a) n (stepTicket a) (ownTickets a)
 
-pub serve-fits : (around : Surroundings) (n : ℕ) (self : Option Stream) (a : Act) → Sane self → FitsAct n a self (serve around n self a)
+pub serve-fits : (around : Surroundings) (n : ℕ) (self : Option Stream) (a : Act) → NotAgain around self → Sane self → FitsAct n a self (serve around n self a)
 unfolding serve completes awaitedBy ownTickets onCommand
-serve-fits around n self (command t f) s = command-fits around n t f self s (field 4 f 0)
-serve-fits around n self (finish m qt r flags ts) s = finished n qt r flags ts self s
-serve-fits around n self (drained m) s = drained-in n self
+serve-fits around n self (command t f) u s = command-fits around n t f self u s (field 4 f 0)
+serve-fits around n self (finish m qt r flags ts) u s = finished n qt r flags ts self s
+serve-fits around n self (drained m) u s = drained-in n self

@@ -1,7 +1,7 @@
 -- A creation is answered 'out of memory' only where every place holds a stream.
 use mathlib.Core.Path.{_≡_, refl, sym, ap, _∙_}
 use mathlib.Core.Bool.{Bool, true, false, not, _&&_, and-false}
-use mathlib.Core.Option.{Option, none, some}
+use mathlib.Core.Option.{Option, some}
 use mathlib.Core.List.{List, [], _∷_}
 use Prim.Native.Nat.{ℕ}
 use native.Mathlib.Omega.{arith}
@@ -11,7 +11,7 @@ use Rattle.laws.specs.Tests.{within}
 use Rattle.laws.specs.Lists.{howMany}
 use Rattle.laws.specs.InOrder.{byTests}
 use Rattle.laws.proofs.Tests.{never}
-use Rattle.laws.proofs.Lists.{decide}
+use Rattle.laws.proofs.Lists.{decide, cond-elim}
 use Rattle.field.specs.Field.{field, littleEndian}
 use Rattle.tag.specs.Tag.{createType, createLength, goodTag, tagIn}
 use Rattle.model.specs.Numbers.{firstCoded, lastCoded}
@@ -42,8 +42,7 @@ create-quiet around c =
 
 stream-quiet : (around : Surroundings) (c : Request) (self : Option Stream) → Quiet (onStream (notFull around) c create self)
 unfolding readFrom responseBytes littleEndian field
-stream-quiet around c none = create-quiet around c
-stream-quiet around c (some b) = refl
+stream-quiet around c self = cond-elim Quiet (around .unusable) (λ _. refl) (λ _. create-quiet around c)
 
 length-quiet : (c : Request) → Quiet (fail c invalidParameter)
 unfolding readFrom responseBytes littleEndian field
@@ -82,7 +81,7 @@ pub full-at-eight : FullAtEight
 unfolding outOfMemoryAt readFrom
 full-at-eight d s h =
     step-cases (λ (o : DeviceReply). outOfMemoryAt (eventOf s o) ≡ true → howMany isLive (d .places) ≡ 8) d s
-    (λ k e. never (sym e ∙ and-false (isCreation (s .act))))
+    (λ k _ e. never (sym e ∙ and-false (isCreation (s .act))))
     (λ n _ e. let self = recordOf n (d .places) in
     decide (noPlace (d .places)) (λ f. all-live (d .places) f ∙ (well-places d h) .size)
     (λ f. never (sym e ∙ ap (λ (b : Bool). isCreation (s .act) && tellsFull (serve (withFull b (around d n)) n self (s .act))) f ∙ act-quiet (around d n) n self (s .act))))

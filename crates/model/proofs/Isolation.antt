@@ -9,12 +9,13 @@ use borrow.Author.Tests.{eqb-true}
 use Rattle.laws.specs.Lists.{anyOf}
 use Rattle.laws.proofs.Tests.{never}
 use Rattle.laws.proofs.Lists.{decide, any-head, any-tail}
-use Rattle.model.specs.Device.{Stream, Device, fresh, recordOf, noPlace, place}
+use Rattle.model.specs.Device.{Stream, Device, fresh, recordOf, noPlace, putBack}
 use Rattle.model.specs.Answers.{bytesOf, answersIn}
 use Rattle.model.specs.Replies.{Reply}
+use Rattle.model.specs.Commands.{Surroundings}
 use Rattle.model.specs.Steps.{Act, command, finish, drained, Step, streamOf, serve, DeviceReply, around, performOf, stepOn, Event, eventOf, eventsOf, final, isOwner, ownerOf, belongs, isCreation, saysFull, outOfMemoryAt}
 use Rattle.model.specs.Condition3.{ownEvents, stepsOf}
-use Rattle.model.proofs.Seen.{notFull, serve-alone, roomRefusal, step-runs, step-refused, Seen, seen, seenAfter, own-seen, other-seen, soloOf, solo-fresh, solo-record, solo-around, solo-put}
+use Rattle.model.proofs.Seen.{notFull, serve-alone, roomRefusal, step-runs, step-refused, Seen, seen, seenAfter, Sized, sized-fresh, sized-step, own-seen, other-seen, soloOf, solo-fresh, solo-record, solo-around, solo-put}
 
 -- what is left of a device where only the stream n is on it
 abbrev solo : ℕ → Device → Device
@@ -26,10 +27,15 @@ module _ (n : ℕ) (d : Device) (a : Act) where
   unhindered = serve (notFull (around d n)) n (recordOf n (d .places)) a
 
   solo-perform : performOf (solo n d) a (some n) ≡ record { refusal = unhindered .refusal; answers = unhindered .answers; device = soloOf n (seenAfter (unhindered .next) (seen n d)) }
-  solo-perform = simp (solo-around n d, solo-record n (seen n d), solo-put n (unhindered .next) (seen n d))
+  solo-perform =
+      (λ i. record { refusal = there i .refusal; answers = there i .answers; device = putBack n (there i .next) (solo n d) })
+      ∙ ap (λ (x : Device). record { refusal = unhindered .refusal; answers = unhindered .answers; device = x }) (solo-put n (unhindered .next) (seen n d))
+    where
+      there : serve (around (solo n d) n) n (recordOf n (solo n d .places)) a ≡ unhindered
+      there = ap₂ (λ (x : Surroundings) (r : Option Stream). serve x n r a) (solo-around n d) (solo-record n (seen n d))
 
 -- the same step on the whole device and alone
-module _ (n : ℕ) (d : Device) (s : Step) (o : streamOf (s .act) ≡ some n) (h : outOfMemoryAt (eventOf s (stepOn d s)) ≡ false) where
+module _ (n : ℕ) (d : Device) (s : Step) (o : streamOf (s .act) ≡ some n) (z : Sized d) (h : outOfMemoryAt (eventOf s (stepOn d s)) ≡ false) where
   abbrev self : Option Stream
   self = recordOf n (d .places)
 
@@ -46,7 +52,7 @@ module _ (n : ℕ) (d : Device) (s : Step) (o : streamOf (s .act) ≡ some n) (h
       serve-alone (noPlace (d .places)) (around d n) n self (s .act) (subst (λ (x : DeviceReply). (isCreation (s .act) && anyOf saysFull (answersIn (bytesOf (x .answers)))) ≡ false) e h) in
       solo-perform n d (s .act)
       ∙ (λ i. record { refusal = (sym sv i) .refusal; answers = (sym sv i) .answers; device = soloOf n (seenAfter ((sym sv i) .next) (seen n d)) })
-      ∙ ap (λ (v : Seen). record { refusal = served .refusal; answers = served .answers; device = soloOf n v }) (sym (own-seen n d (s .act)))
+      ∙ ap (λ (v : Seen). record { refusal = served .refusal; answers = served .answers; device = soloOf n v }) (sym (own-seen n d (s .act) z))
 
   same-step : Same (stepOn d s) (stepOn (solo n d) s)
   same-step =
@@ -75,7 +81,7 @@ serves-owner (command t f) = refl
 serves-owner (finish n qt r flags ts) = refl
 serves-owner (drained n) = refl
 
-owner-is : (n : ℕ) (o : Option ℕ) → isOwner n o ≡ true → o ≡ some n
+pub owner-is : (n : ℕ) (o : Option ℕ) → isOwner n o ≡ true → o ≡ some n
 owner-is n none e = never (sym e)
 owner-is n (some m) e = ap some (eqb-true m n e)
 
@@ -87,14 +93,14 @@ Isolated n d ss =
     → (ownEvents n (eventsOf d ss) ≡ eventsOf (solo n d) (stepsOf (ownEvents n (eventsOf d ss))))
     × (recordOf n (final d ss .places) ≡ recordOf n (final (solo n d) (stepsOf (ownEvents n (eventsOf d ss))) .places))
 
-isolate-own : (n : ℕ) (d : Device) (s : Step) (ss : List Step) → belongs n (eventOf s (stepOn d s)) ≡ true → Isolated n (stepOn d s .device) ss → Isolated n d (s ∷ ss)
+isolate-own : (n : ℕ) (d : Device) (s : Step) (ss : List Step) → Sized d → belongs n (eventOf s (stepOn d s)) ≡ true → Isolated n (stepOn d s .device) ss → Isolated n d (s ∷ ss)
 unfolding belongs
-isolate-own n d s ss b ih h =
+isolate-own n d s ss z b ih h =
     let d′ = stepOn d s .device in
     let rest = ownEvents n (eventsOf d′ ss) in
     let h′ : anyOf outOfMemoryAt (eventOf s (stepOn d s) ∷ rest) ≡ false = simp b at h in
     let there = ih (any-tail outOfMemoryAt (eventOf s (stepOn d s)) rest h′) in
-    let same = same-step n d s (serves-owner (s .act) ∙ owner-is n (ownerOf (s .act)) b) (any-head outOfMemoryAt (eventOf s (stepOn d s)) rest h′) in
+    let same = same-step n d s (serves-owner (s .act) ∙ owner-is n (ownerOf (s .act)) b) z (any-head outOfMemoryAt (eventOf s (stepOn d s)) rest h′) in
     simp b (
       ap₂ (λ (x : DeviceReply) (l : List Event). eventOf s x ∷ l) (sym same) (there .0 ∙ ap (λ (x : DeviceReply). eventsOf (x .device) (stepsOf rest)) (sym same)),
       there .1 ∙ ap (λ (x : DeviceReply). recordOf n (final (x .device) (stepsOf rest) .places)) (sym same),
@@ -104,13 +110,13 @@ isolate-other : (n : ℕ) (d : Device) (s : Step) (ss : List Step) → belongs n
 unfolding belongs
 isolate-other n d s ss b ih h = simp b (simp (other-step n d s (ap (isOwner n) (serves-owner (s .act)) ∙ b)) at (ih (simp b at h)))
 
-isolate : (n : ℕ) (d : Device) (ss : List Step) → Isolated n d ss
-isolate n d [] = λ h. (refl, sym (solo-record n (seen n d)))
-isolate n d (s ∷ ss) =
-    let later = isolate n (stepOn d s .device) ss in
-    decide (belongs n (eventOf s (stepOn d s))) (λ b. isolate-own n d s ss b later) (λ b. isolate-other n d s ss b later)
+isolate : (n : ℕ) (d : Device) (ss : List Step) → Sized d → Isolated n d ss
+isolate n d [] z = λ h. (refl, sym (solo-record n (seen n d)))
+isolate n d (s ∷ ss) z =
+    let later = isolate n (stepOn d s .device) ss (sized-step d s z) in
+    decide (belongs n (eventOf s (stepOn d s))) (λ b. isolate-own n d s ss z b later) (λ b. isolate-other n d s ss b later)
 
 pub isolated : (n : ℕ) (ss : List Step) → anyOf outOfMemoryAt (ownEvents n (eventsOf fresh ss)) ≡ false
     → (ownEvents n (eventsOf fresh ss) ≡ eventsOf fresh (stepsOf (ownEvents n (eventsOf fresh ss))))
     × (recordOf n (final fresh ss .places) ≡ recordOf n (final fresh (stepsOf (ownEvents n (eventsOf fresh ss))) .places))
-isolated n ss = simp (solo-fresh n) at (isolate n fresh ss)
+isolated n ss = simp (solo-fresh n) at (isolate n fresh ss sized-fresh)

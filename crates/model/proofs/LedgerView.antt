@@ -71,20 +71,20 @@ same-drain : (t : Awaited → Bool) (w : Awaited) → (isDrain w && t w) ≡ (is
 same-drain t (toBuffer q r ts) = refl
 same-drain t toDrain = refl
 
-abbrev seen : ℕ → (Awaited → Bool) → Buffer → Bool
-seen qt t i = t (toBuffer qt (i .resource) (i .timestamp))
+abbrev onBuffer : ℕ → (Awaited → Bool) → Buffer → Bool
+onBuffer qt t i = t (toBuffer qt (i .resource) (i .timestamp))
 
-buffers-pick : (q : QueueType) (t : Awaited → Bool) (l : List Pending) → buffersIn q (keep (awaits t) l) ≡ keep (seen (queueNumber q) t) (buffersIn q l)
+buffers-pick : (q : QueueType) (t : Awaited → Bool) (l : List Pending) → buffersIn q (keep (awaits t) l) ≡ keep (onBuffer (queueNumber q) t) (buffersIn q l)
 buffers-pick q t l =
     let qt = queueNumber q in
     let mine = awaits (isBufferOf qt) in
     ap (λ (x : List Pending). map awaitedBuffer (byNumber x))
     (keep-comm mine (awaits t) l
     ∙ keep-keep (awaits t) mine l
-    ∙ keep-ext (λ p. isBufferOf qt (p .awaited) && t (p .awaited)) (λ p. isBufferOf qt (p .awaited) && seen qt t (awaitedBuffer p)) (λ p. same-on-numbers qt t (p .awaited)) l
-    ∙ sym (keep-keep (λ p. seen qt t (awaitedBuffer p)) mine l))
-    ∙ ap (map awaitedBuffer) (sym (keep-ascending number (λ p. seen qt t (awaitedBuffer p)) (keep mine l)))
-    ∙ map-keep awaitedBuffer number byRes (λ p. refl) (λ p. seen qt t (awaitedBuffer p)) (seen qt t) (λ p. refl) (byNumber (keep mine l))
+    ∙ keep-ext (λ p. isBufferOf qt (p .awaited) && t (p .awaited)) (λ p. isBufferOf qt (p .awaited) && onBuffer qt t (awaitedBuffer p)) (λ p. same-on-numbers qt t (p .awaited)) l
+    ∙ sym (keep-keep (λ p. onBuffer qt t (awaitedBuffer p)) mine l))
+    ∙ ap (map awaitedBuffer) (sym (keep-ascending number (λ p. onBuffer qt t (awaitedBuffer p)) (keep mine l)))
+    ∙ map-keep awaitedBuffer number byRes (λ p. refl) (λ p. onBuffer qt t (awaitedBuffer p)) (onBuffer qt t) (λ p. refl) (byNumber (keep mine l))
 
 drains-pick : (t : Awaited → Bool) (l : List Pending) → ticketsIn (keep (awaits isDrain) (keep (awaits t) l)) ≡ cond (t toDrain) (ticketsIn (keep (awaits isDrain) l)) []
 drains-pick t l =

@@ -4,6 +4,7 @@ pub mod Rules
 pub mod LedgerView
 pub mod Fits
 pub mod Places
+pub mod Spent
 pub mod Seen
 pub mod Isolation
 pub mod Origins
@@ -15,3 +16,4 @@ pub mod Condition3
 pub mod Tables
 pub mod Refusals
 pub mod Unchanged
+pub mod SpentForGood

@@ -1,7 +1,7 @@
 -- A property of a reply, of a stream or of the device, by what can give it.
 use Prim.Native.Nat.{ℕ, _+_}
 use mathlib.Core.Path.{_≡_, refl, sym, subst}
-use mathlib.Core.Bool.{true, cond}
+use mathlib.Core.Bool.{true, false, cond}
 use mathlib.Core.Option.{Option, none, some}
 use mathlib.Core.List.{[], _∷_}
 use lib.ListN.{length}
@@ -24,15 +24,14 @@ named c = queueNamed (queueType (c .frame))
 module _ (P : Reply → Type 0) where
   -- an error, a creation, or a command to a live stream
   pub command-cases : (around : Surroundings) (c : Request) → ((e : ErrorCode) → P (fail c e))
-      → (c .self ≡ none → P (onCreate around c))
+      → (around .unusable ≡ false → P (onCreate around c))
       → ((k : LiveCommand) (b : Stream) → c .self ≡ some b → P (onLive k c b))
       → P (onCommand around c)
   unfolding onCommand
   command-cases around c fails new old = of-rule (ruleOf (commandType (c .frame)))
     where
       of-stream : (k : Command) (self : Option Stream) → c .self ≡ self → P (onStream around c k self)
-      of-stream create none e = new e
-      of-stream create (some b) e = fails invalidStream
+      of-stream create self e = cond-elim P (around .unusable) (λ _. fails invalidStream) new
       of-stream (live k) none e = fails invalidStream
       of-stream (live k) (some b) e = old k b e
 
@@ -93,14 +92,14 @@ module _ (P : Reply → Type 0) where
           let is : endDrain n b (some t) ≡ cond (isEmpty (queuedIn (b .inputs .slots))) done (refuse 5 (some b)) = refl in
           subst P (sym is) (cond-elim P (isEmpty (queuedIn (b .inputs .slots))) (λ _. h b t refl e) (λ _. five))
 
--- a refusal, or what the stream that the step names gives
-pub step-cases : (P : DeviceReply → Type 0) (d : Device) (s : Step) → ((k : ℕ) → P (refused k d))
+-- a refusal by a number, or what the stream that the step names gives
+pub step-cases : (P : DeviceReply → Type 0) (d : Device) (s : Step) → ((k : ℕ) → eqb k 0 ≡ false → P (refused k d))
     → ((n : ℕ) → streamOf (s .act) ≡ some n → P (performOf d (s .act) (some n))) → P (stepOn d s)
 unfolding stepOn
 step-cases P d s refuses h =
     let k = hostRefusal tableWords (length (s .room)) true in
-    cond-elim P (eqb k 0) (λ _. of-stream (streamOf (s .act)) refl) (λ _. refuses k)
+    cond-elim P (eqb k 0) (λ _. of-stream (streamOf (s .act)) refl) (refuses k)
   where
     of-stream : (o : Option ℕ) → streamOf (s .act) ≡ o → P (performOf d (s .act) o)
-    of-stream none e = refuses 4
+    of-stream none e = refuses 4 refl
     of-stream (some n) e = h n e

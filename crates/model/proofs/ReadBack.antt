@@ -221,7 +221,7 @@ serve-answers around n self (drained k) g m =
 
 pub step-answers : (d : Device) (s : Step) → wellFormed d ≡ true → goodAct (s .act) ≡ true → allOf goodAnswer (stepOn d s .answers) ≡ true
 step-answers d s h m =
-    step-cases (λ (o : DeviceReply). allOf goodAnswer (o .answers) ≡ true) d s (λ k. refl)
+    step-cases (λ (o : DeviceReply). allOf goodAnswer (o .answers) ≡ true) d s (λ k _. refl)
     (λ n e. serve-answers (around d n) n (recordOf n (d .places)) (s .act) (well-record n d h) m)
 
 pub read-back : ReadBack

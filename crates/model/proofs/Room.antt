@@ -122,5 +122,5 @@ serve-small around n self (drained k) g = drained-cases InRoom n self (omega ari
 
 pub fits-room : FitsRoom
 fits-room d s h =
-    step-cases (λ (o : DeviceReply). size (o .answers) ≤ answerRoom) d s (λ k. omega arith)
+    step-cases (λ (o : DeviceReply). size (o .answers) ≤ answerRoom) d s (λ k _. omega arith)
     (λ n e. serve-small (around d n) n (recordOf n (d .places)) (s .act) (well-record n d h))

@@ -5,7 +5,8 @@ use mathlib.Core.List.{List, [], _∷_}
 use Prim.Native.Nat.{ℕ}
 use lib.Dec.{eqb}
 use borrow.Author.Tests.{eqb-true}
-use Rattle.laws.proofs.Lists.{decide, Each}
+use Rattle.laws.specs.Lists.{Each}
+use Rattle.laws.proofs.Lists.{decide}
 use Rattle.model.specs.Device.{QueueType, input, output}
 use Rattle.model.specs.Frames.{CommandRule, commands, ruleIn, ruleOf, queueNumber, queueNamed}
 

@@ -1,11 +1,13 @@
 -- What a step sees of its own number and of the other streams.
 use mathlib.Core.Path.{_≡_, refl, sym, ap, _∙_}
-use mathlib.Core.Bool.{Bool, true, false, not, _&&_}
+use mathlib.Core.Bool.{Bool, true, false, cond, not, _&&_, _||_, or-true, or-false}
 use mathlib.Core.Option.{Option, none, some}
 use mathlib.Core.List.{List, _∷_}
-use Prim.Native.Nat.{ℕ}
-use lib.ListN.{length, replicate}
+use Prim.Native.Nat.{ℕ, _≤_}
+use native.Mathlib.Omega.{arith}
+use lib.ListN.{length, replicate, length-replicate}
 use lib.Dec.{eqb, ltb}
+use borrow.Author.Tests.{ltb-true, ltb-false, le-ltb}
 use Rattle.laws.specs.Tests.{within}
 use Rattle.laws.specs.Lists.{anyOf}
 use Rattle.laws.specs.InOrder.{byTests}
@@ -14,15 +16,17 @@ use Rattle.laws.proofs.Lists.{decide, cond-elim, eqb-same, none-is, each-map}
 use Rattle.laws.proofs.InOrder.{tests-cases}
 use Rattle.field.specs.Field.{field, littleEndian}
 use Rattle.tag.specs.Tag.{goodTag, tagIn}
-use Rattle.model.specs.Numbers.{tableWords, firstCoded, lastCoded}
-use Rattle.model.specs.Device.{Stream, Place, vacant, Device, fresh, recordOf, noPlace, place, putRecord, withPlaces, putBack}
+use Rattle.model.specs.Numbers.{tableWords, answerRoom, streamPlaces, streamNumbers, firstCoded, lastCoded}
+use Rattle.model.specs.Device.{Stream, Place, vacant, Device, fresh, recordOf, noPlace, place, putRecord, isSpent, spend, isNew, spentAfter, putBack}
 use Rattle.model.specs.Frames.{LiveCommand, Command, create, live, CommandRule, commands, ruleOf, wrongLength, commandType, inMemType, outMemType, codedFormat}
-use Rattle.model.specs.Answers.{outOfMemory, bytesOf, responseBytes, readFrom, answersIn}
+use Rattle.model.specs.Answers.{outOfMemory, invalidStream, bytesOf, responseBytes, readFrom, answersIn}
 use Rattle.model.specs.Replies.{Reply, Request, fail}
 use Rattle.model.specs.Commands.{Surroundings, withFull, onCreate, onStream, onRule, onCommand}
 use Rattle.model.specs.Reports.{onFinish, onDrained}
-use Rattle.model.specs.Steps.{Act, command, finish, drained, Step, serve, refused, around, performOf, perform, hostRefusal, stepOn, isCreation, saysFull}
+use Rattle.model.specs.Steps.{Act, command, finish, drained, Step, serve, DeviceReply, refused, around, performOf, perform, hostRefusal, stepOn, isCreation, saysFull}
 use Rattle.model.proofs.Places.{put-same, put-other}
+use Rattle.model.proofs.Spent.{spend-length, spend-same, spend-other, spend-again, spend-beyond, none-spent}
+use Rattle.model.proofs.Origins.{step-cases}
 use Rattle.model.proofs.Rules.{by-type}
 
 abbrev withFullness : Surroundings → Surroundings
@@ -31,25 +35,33 @@ withFullness around = withFull true around
 abbrev pub notFull : Surroundings → Surroundings
 notFull around = withFull false around
 
--- Where every place holds something, no step brings a stream to life
+-- the number of a live stream may not be taken again
+abbrev pub NotAgain : Surroundings → Option Stream → Type 0
+NotAgain around none = Unit {0}
+NotAgain around (some b) = around .unusable ≡ true
+
+-- Where every place holds something, or the number may not be taken, no step brings a stream to life
 
 abbrev StaysNone : Reply → Type 0
 StaysNone v = v .next ≡ none
 
-request-next : (around : Surroundings) (n t : ℕ) (f : List ℕ) (l : Option CommandRule) → StaysNone (onRule (withFullness around) (record { stream = n; ticket = t; frame = f; self = none }) l)
-unfolding onCreate
-request-next around n t f none = refl
-request-next around n t f (some l) = cond-elim StaysNone (wrongLength (l .lengthRule) (length f)) (λ _. refl) (λ _. of (l .command))
-  where
-    of : (x : Command) → StaysNone (onStream (withFullness around) (record { stream = n; ticket = t; frame = f; self = none }) x none)
-    of create = tests-cases StaysNone (fail (record { stream = n; ticket = t; frame = f; self = none })) _ (λ e. refl) (λ h₁ h₂ h₃ h₄ h₅. never h₅)
-    of (live k) = refl
+module _ (around : Surroundings) (h : (around .full || around .unusable) ≡ true) (n : ℕ) where
+  request-next : (t : ℕ) (f : List ℕ) (l : Option CommandRule) → StaysNone (onRule around (record { stream = n; ticket = t; frame = f; self = none }) l)
+  unfolding onCreate
+  request-next t f none = refl
+  request-next t f (some l) = cond-elim StaysNone (wrongLength (l .lengthRule) (length f)) (λ _. refl) (λ _. of (l .command))
+    where
+      of : (x : Command) → StaysNone (onStream around (record { stream = n; ticket = t; frame = f; self = none }) x none)
+      of create =
+          cond-elim StaysNone (around .unusable) (λ _. refl)
+          (λ u. tests-cases StaysNone (fail (record { stream = n; ticket = t; frame = f; self = none })) _ (λ e. refl) (λ h₁ h₂ h₃ h₄ h₅. never (sym (simp (h₅, u) at h))))
+      of (live k) = refl
 
-serve-next : (around : Surroundings) (n : ℕ) (a : Act) → StaysNone (serve (withFullness around) n none a)
-unfolding serve onCommand onFinish onDrained
-serve-next around n (command t f) = request-next around n t f (ruleOf (commandType f))
-serve-next around n (finish m qt r flags ts) = cond-elim StaysNone (ltb 3 flags) (λ _. refl) (λ _. refl)
-serve-next around n (drained m) = refl
+  pub serve-next : (a : Act) → StaysNone (serve around n none a)
+  unfolding serve onCommand onFinish onDrained
+  serve-next (command t f) = request-next t f (ruleOf (commandType f))
+  serve-next (finish m qt r flags ts) = cond-elim StaysNone (ltb 3 flags) (λ _. refl) (λ _. refl)
+  serve-next (drained m) = refl
 
 -- A step that is not answered 'out of memory' does not depend on the surroundings
 
@@ -70,8 +82,12 @@ create-full around c h =
     decide (not (goodTag (tagIn f))) (λ e. simp (e₁, e₂, e₃, e)) (λ e₄. never (sym (full-tells c) ∙ (simp (e₁, e₂, e₃, e₄) at h))))))
 
 stream-full : (around : Surroundings) (c : Request) (x : Command) (r : Option Stream) → (x ≡ create → tellsFull (onStream (withFullness around) c x r) ≡ false) → onStream (withFullness around) c x r ≡ onStream (notFull around) c x r
-stream-full around c create none h = create-full around c (h refl)
-stream-full around c create (some b) h = refl
+stream-full around c create self h = of (around .unusable) (h refl)
+  where
+    of : (u : Bool) → tellsFull (cond u (fail c invalidStream) (onCreate (withFullness around) c)) ≡ false
+        → cond u (fail c invalidStream) (onCreate (withFullness around) c) ≡ cond u (fail c invalidStream) (onCreate (notFull around) c)
+    of true h = refl
+    of false h = create-full around c h
 stream-full around c (live k) none h = refl
 stream-full around c (live k) (some b) h = refl
 
@@ -119,33 +135,83 @@ pub step-refused : (d : Device) (s : Step) → eqb (roomRefusal s) 0 ≡ false �
 unfolding stepOn
 step-refused d s e = simp e
 
--- What a step of the stream n can see of a device besides its surroundings. The argument over lists (Isolation) is about this alone.
+-- where the room is enough it runs
+pub room-enough : (s : Step) → answerRoom ≤ length (s .room) → eqb (roomRefusal s) 0 ≡ true
+unfolding hostRefusal
+room-enough s h = simp (le-ltb (length (s .room)) answerRoom h)
 
+-- The record behind a number after a step of its own, and of another
+
+-- the record that a step of n leaves
+abbrev pub nextOf : ℕ → Device → Act → Option Stream
+nextOf n d a = serve (around d n) n (recordOf n (d .places)) a .next
+
+pub own-record : (n : ℕ) (d : Device) (a : Act) → recordOf n (performOf d a (some n) .device .places) ≡ nextOf n d a
+own-record n d a =
+    put-same n _ (d .places)
+    (λ e f. ap (λ (r : Option Stream). serve (around d n) n r a .next) (none-is (recordOf n (d .places)) e) ∙ serve-next (around d n) (simp f) n a)
+
+pub other-record : (m n : ℕ) (d : Device) (a : Act) → eqb n m ≡ false → recordOf m (performOf d a (some n) .device .places) ≡ recordOf m (d .places)
+other-record m n d a h = put-other m n _ (d .places) h
+
+-- What a step can see of its own number. The argument over lists (Isolation) is about this alone.
+
+-- the record of its stream, and whether the number may not be taken
 pub record Seen : Type 0 where
   pub self : Option Stream
+  pub unusable : Bool
 
 abbrev pub seen : ℕ → Device → Seen
-seen n d = record { self = recordOf n (d .places) }
+seen n d = record { self = recordOf n (d .places); unusable = around d n .unusable }
 
 -- what is seen after a step that leaves the record r
 pub seenAfter : Option Stream → Seen → Seen
-seenAfter r v = record { self = r }
+seenAfter r v = record { self = r; unusable = v .unusable || isNew (v .self) r }
+
+module _ (r : Option Stream) (v : Seen) where
+  pub self-after : seenAfter r v .self ≡ r
+  unfolding seenAfter
+  self-after = refl
+
+  -- a number that may not be taken stays so
+  pub still-unusable : v .unusable ≡ true → seenAfter r v .unusable ≡ true
+  unfolding seenAfter
+  still-unusable u = simp u
+
+-- a truth value is kept for each number
+abbrev pub Sized : Device → Type 0
+Sized d = length (d .spent) ≡ streamNumbers
+
+pub after-length : (n : ℕ) (old next : Option Stream) (s : List Bool) → length (spentAfter n old next s) ≡ length s
+after-length n old next s = cond-elim (λ (x : List Bool). length x ≡ length s) (isNew old next) (λ _. spend-length n s) (λ _. refl)
+
+pub sized-fresh : Sized fresh
+unfolding fresh
+sized-fresh = length-replicate {A = Bool} streamNumbers false
+
+pub sized-step : (d : Device) (s : Step) → Sized d → Sized (stepOn d s .device)
+sized-step d s h = step-cases (λ (o : DeviceReply). Sized (o .device)) d s (λ k _. h) (λ n e. after-length n (recordOf n (d .places)) (nextOf n d (s .act)) (d .spent) ∙ h)
+
+-- a number that is spent may not be taken any more
+after-unusable : (n : ℕ) (old next : Option Stream) (s : List Bool) → length s ≡ streamNumbers
+    → (not (ltb n streamNumbers) || isSpent n (spentAfter n old next s)) ≡ (not (ltb n streamNumbers) || isSpent n s || isNew old next)
+after-unusable n old next s h =
+    decide (ltb n streamNumbers)
+    (λ b. decide (isNew old next)
+    (λ e. simp (b, e, spend-same n s (omega (arith, ltb-true n streamNumbers b, h)), or-true (isSpent n s)))
+    (λ e. simp (b, e, or-false (isSpent n s))))
+    (λ b. simp b)
+
+after-other : (m n : ℕ) (old next : Option Stream) (s : List Bool) → eqb n m ≡ false → isSpent m (spentAfter n old next s) ≡ isSpent m s
+after-other m n old next s h = cond-elim (λ (x : List Bool). isSpent m x ≡ isSpent m s) (isNew old next) (λ _. spend-other n s m h) (λ _. refl)
 
 -- after a step of n, and after one of another stream
-pub own-seen : (n : ℕ) (d : Device) (a : Act) → seen n (performOf d a (some n) .device) ≡ seenAfter (serve (around d n) n (recordOf n (d .places)) a .next) (seen n d)
+pub own-seen : (n : ℕ) (d : Device) (a : Act) → Sized d → seen n (performOf d a (some n) .device) ≡ seenAfter (nextOf n d a) (seen n d)
 unfolding seenAfter
-own-seen n d a = ap (λ (r : Option Stream). record { self = r }) (put-same n _ (d .places) (λ e f. simp (none-is (recordOf n (d .places)) e, f) (serve-next (around d n) n a)))
+own-seen n d a h = λ i. record { self = own-record n d a i; unusable = after-unusable n (recordOf n (d .places)) (nextOf n d a) (d .spent) h i }
 
 pub other-seen : (m n : ℕ) (d : Device) (a : Act) → eqb n m ≡ false → seen m (performOf d a (some n) .device) ≡ seen m d
-other-seen m n d a h = ap (λ (r : Option Stream). record { self = r }) (put-other m n _ (d .places) h)
-
--- and so the record
-pub own-record : (n : ℕ) (d : Device) (a : Act) → recordOf n (performOf d a (some n) .device .places) ≡ serve (around d n) n (recordOf n (d .places)) a .next
-unfolding seenAfter
-own-record n d a = ap (λ (v : Seen). v .self) (own-seen n d a)
-
-pub other-record : (m n : ℕ) (d : Device) (a : Act) → eqb n m ≡ false → recordOf m (performOf d a (some n) .device .places) ≡ recordOf m (d .places)
-other-record m n d a h = ap (λ (v : Seen). v .self) (other-seen m n d a h)
+other-seen m n d a h = λ i. record { self = other-record m n d a h i; unusable = not (ltb m streamNumbers) || after-other m n (recordOf n (d .places)) (nextOf n d a) (d .spent) h i }
 
 -- Where only the stream n was ever on a device
 
@@ -168,23 +234,52 @@ unfolding alonePlaces putRecord
 alone-put n none x = refl
 alone-put n (some b) x = simp (eqb-same n)
 
+-- its spent numbers
+aloneSpent : ℕ → Bool → List Bool
+aloneSpent n u = cond u (spend n (replicate streamNumbers false)) (replicate streamNumbers false)
+
+alone-unusable : (n : ℕ) (s : List Bool) → (not (ltb n streamNumbers) || isSpent n (aloneSpent n (not (ltb n streamNumbers) || isSpent n s))) ≡ (not (ltb n streamNumbers) || isSpent n s)
+unfolding aloneSpent
+alone-unusable n s =
+    decide (ltb n streamNumbers)
+    (λ b. let below = ltb-true n streamNumbers b in
+    decide (isSpent n s)
+    (λ e. simp (b, e) (spend-same n (replicate streamNumbers false) (omega (arith, below, length-replicate {A = Bool} streamNumbers false))))
+    (λ e. simp (b, e) (none-spent n)))
+    (λ b. simp b)
+
+alone-spend : (n : ℕ) (u new : Bool) → cond new (spend n (aloneSpent n u)) (aloneSpent n u) ≡ aloneSpent n (u || new)
+unfolding aloneSpent
+alone-spend n true true = spend-again n (replicate streamNumbers false)
+alone-spend n true false = refl
+alone-spend n false true = refl
+alone-spend n false false = refl
+
 -- the device, by what a step of n sees there
 pub soloOf : ℕ → Seen → Device
-soloOf n v = withPlaces (alonePlaces n (v .self)) fresh
+soloOf n v = record { places = alonePlaces n (v .self); spent = aloneSpent n (v .unusable) }
 
 pub solo-fresh : (n : ℕ) → soloOf n (seen n fresh) ≡ fresh
-unfolding soloOf alonePlaces fresh
-solo-fresh n = refl
+unfolding soloOf alonePlaces aloneSpent fresh
+solo-fresh n = λ i. record { places = replicate streamPlaces vacant; spent = unspent i }
+  where
+    unspent : aloneSpent n (not (ltb n streamNumbers) || isSpent n (replicate streamNumbers false)) ≡ replicate streamNumbers false
+    unspent = decide (ltb n streamNumbers) (λ b. simp (b, none-spent n)) (λ b. simp b (spend-beyond n (replicate streamNumbers false) (omega (arith, ltb-false n streamNumbers b, length-replicate {A = Bool} streamNumbers false))))
 
 pub solo-record : (n : ℕ) (v : Seen) → recordOf n (soloOf n v .places) ≡ v .self
 unfolding soloOf
 solo-record n v = alone-record n (v .self)
 
--- a step of n finds there its own record, and is hindered by no other stream
+-- a step of n finds there its own record and what its number is, and is hindered by no other stream
 pub solo-around : (n : ℕ) (d : Device) → around (soloOf n (seen n d)) n ≡ notFull (around d n)
 unfolding soloOf
-solo-around n d = simp alone-vacant
+solo-around n d = λ i. record { full = alone-vacant n (recordOf n (d .places)) i; unusable = alone-unusable n (d .spent) i }
 
 pub solo-put : (n : ℕ) (r : Option Stream) (v : Seen) → putBack n r (soloOf n v) ≡ soloOf n (seenAfter r v)
 unfolding soloOf seenAfter
-solo-put n r v = simp alone-put
+solo-put n r v = λ i. record { places = alone-put n (v .self) r i; spent = spent i }
+  where
+    spent : spentAfter n (recordOf n (alonePlaces n (v .self))) r (aloneSpent n (v .unusable)) ≡ aloneSpent n (v .unusable || isNew (v .self) r)
+    spent =
+        ap (λ (old : Option Stream). spentAfter n old r (aloneSpent n (v .unusable))) (alone-record n (v .self))
+        ∙ alone-spend n (v .unusable) (isNew (v .self) r)

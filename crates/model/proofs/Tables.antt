@@ -4,14 +4,14 @@ use native.Mathlib.Omega.{arith}
 use mathlib.Core.Path.{_≡_, refl, sym, ap, ap₂, _∙_, subst}
 use mathlib.Core.Bool.{Bool, true}
 use mathlib.Core.List.{List, [], _∷_, _++_}
-use lib.ListN.{length, take, drop, length-append, length-drop}
+use lib.ListN.{length, take, drop, length-append, length-drop, take-append-drop}
 use lib.Seq.{take-at, drop-at}
 use lib.Dec.{eqb, ltb}
 use borrow.Author.Tests.{lt-ltb, ltb-false, le-ltb}
 use Rattle.laws.specs.Lists.{allOf, same}
 use Rattle.laws.proofs.Tests.{never, both, and-left, and-right}
 use Rattle.laws.proofs.Lists.{decide, all-keep}
-use Rattle.laws.proofs.Same.{same-refl}
+use Rattle.laws.proofs.Same.{same-refl, same-true}
 use Rattle.model.specs.Numbers.{tableWords, answerRoom}
 use Rattle.model.specs.Device.{Device, fresh, recordOf}
 use Rattle.model.specs.Answers.{bytesOf}
@@ -108,6 +108,28 @@ pub final-well : (d : Device) (ss : List Step) → wellFormed d ≡ true → goo
 final-well d [] h m = h
 final-well d (s ∷ ss) h m =
     final-well (stepOn d s .device) ss (stays-well-formed d s h (and-left (goodAct (s .act)) (goodSteps ss) m)) (and-right (goodAct (s .act)) (goodSteps ss) m)
+
+-- A valid table stands for a well-formed device
+
+module _ (L : Layout) (t : List ℕ) (v : valid L t ≡ true) where
+  abbrev inTable : Device
+  inTable = L .decode (take tableWords t)
+
+  pub valid-device : wellFormed inTable ≡ true
+  unfolding valid
+  valid-device = and-left (wellFormed inTable) (same (take tableWords t) (L .encode inTable)) v
+
+  -- its words are those of that device, with those behind them
+  pub valid-used : take tableWords t ≡ L .encode inTable
+  unfolding valid
+  valid-used = same-true (take tableWords t) (L .encode inTable) (and-right (wellFormed inTable) (same (take tableWords t) (L .encode inTable)) v)
+
+  pub valid-whole : L .encode inTable ++ drop tableWords t ≡ t
+  valid-whole = ap (λ (x : List ℕ). x ++ drop tableWords t) (sym valid-used) ∙ take-append-drop tableWords t
+
+  -- and a list shows the same on both
+  pub valid-log : Lawful L → (ss : List Step) → goodSteps ss ≡ true → tableEvents L t ss ≡ eventsOf inTable ss
+  valid-log law ss m = ap (λ (x : List ℕ). tableEvents L x ss) (sym valid-whole) ∙ same-log L law (drop tableWords t) inTable ss valid-device m
 
 -- Condition 3 over tables
 

@@ -5,16 +5,15 @@ use mathlib.Core.Path.{_≡_, refl, sym, ap, _∙_, subst}
 use mathlib.Core.Bool.{Bool, true, false, not, _&&_}
 use mathlib.Core.Option.{Option, none, some}
 use mathlib.Core.List.{List, [], _∷_, _++_, map}
-use lib.ListN.{length, take, drop, length-append, length-drop, take-append-drop}
+use lib.ListN.{length, take, drop, length-append, length-drop}
 use lib.Seq.{take-at, drop-at}
 use lib.Dec.{eqb}
-use Rattle.laws.specs.Lists.{anyOf, same}
-use Rattle.laws.proofs.Tests.{never, and-left, and-right}
+use Rattle.laws.specs.Lists.{anyOf}
+use Rattle.laws.proofs.Tests.{never}
 use Rattle.laws.proofs.Lists.{decide}
-use Rattle.laws.proofs.Same.{same-true}
 use Rattle.field.specs.Field.{field, littleEndian}
 use Rattle.model.specs.Numbers.{tableWords}
-use Rattle.model.specs.Device.{Stream, Device, recordOf, withPlaces, putBack}
+use Rattle.model.specs.Device.{Stream, Device, recordOf, putBack}
 use Rattle.model.specs.Answers.{ErrorCode, failure, responseBytes, bytesOf, answersIn}
 use Rattle.model.specs.Replies.{Reply, refuse}
 use Rattle.model.specs.Steps.{Act, command, finish, drained, Step, streamOf, serve, DeviceReply, refused, around, performOf, perform, hostRefusal, stepOn, accepted, eventOf}
@@ -23,16 +22,17 @@ use Rattle.model.specs.Tables.{Layout, Lawful, Effect, untouched, valid,
 use Rattle.model.specs.Promises.{asWritten, RefusalChangesNothing, OneError, ErrorChangesNothing, RestStays, KeepsRest, StaysValid, WritesAtMost}
 use Rattle.model.specs.Ledger.{stepTicket}
 use Rattle.model.proofs.Places.{put-self}
+use Rattle.model.proofs.Spent.{spent-self}
 use Rattle.model.proofs.Origins.{finish-cases, drained-cases}
-use Rattle.model.proofs.WellFormed.{well-places, stays-well-formed}
+use Rattle.model.proofs.WellFormed.{well-places, not-again, stays-well-formed}
 use Rattle.model.proofs.ReadBack.{read-back}
 use Rattle.model.proofs.Room.{fits-room}
 use Rattle.model.proofs.Fits.{fails, acceptedReply, Rejected, byHost, byError, FitsAct, serve-fits}
 use Rattle.model.proofs.Seen.{step-runs}
 use Rattle.model.proofs.Condition3.{sane-record, step-stream-is, accepted-is}
-use Rattle.model.proofs.Tables.{Lent, not-refused, valid-refusal, words-valid}
+use Rattle.model.proofs.Tables.{Lent, not-refused, valid-refusal, words-valid, valid-device, valid-whole}
 
-abbrev acceptedDeviceReply : DeviceReply → Bool
+abbrev pub acceptedDeviceReply : DeviceReply → Bool
 acceptedDeviceReply o = eqb (o .refusal) 0 && not (anyOf fails (o .answers))
 
 -- not accepted: a refusal number, or one error answer to a command; the device stays
@@ -52,17 +52,18 @@ module _ (d : Device) (h : wellFormed d ≡ true) (n : ℕ) where
   abbrev self : Option Stream
   self = recordOf n (d .places)
 
-  back : putBack n self d ≡ d
-  back = ap (λ ps. withPlaces ps d) (put-self n (d .places) ((well-places d h) .apart))
+  -- a record that is put back as it was leaves the device
+  pub put-back-same : putBack n self d ≡ d
+  put-back-same = λ i. record { places = put-self n (d .places) ((well-places d h) .apart) i; spent = spent-self n self (d .spent) i }
 
   by-number : (a : Act) (k : ℕ) → eqb k 0 ≡ false → NotAccepted d a (deviceReply d n (refuse k self))
-  by-number a k z = subst (λ (x : Device). NotAccepted d a (record { refusal = k; answers = []; device = x })) (sym back) (numbered k z)
+  by-number a k z = subst (λ (x : Device). NotAccepted d a (record { refusal = k; answers = []; device = x })) (sym put-back-same) (numbered k z)
 
   -- by a number, or a command by an error
   asked : (t : ℕ) (f : List ℕ) (v : Reply) → n ≡ field 4 f 4 → Rejected n t self v → NotAccepted d (command t f) (deviceReply d n v)
   asked t f _ s (byHost k z) = by-number (command t f) k z
   asked t f _ s (byError e) =
-      subst (λ (x : Device). NotAccepted d (command t f) (record { refusal = 0; answers = record { ticket = t; stream = n; response = failure e } ∷ []; device = x })) (sym back)
+      subst (λ (x : Device). NotAccepted d (command t f) (record { refusal = 0; answers = record { ticket = t; stream = n; response = failure e } ∷ []; device = x })) (sym put-back-same)
       (subst (λ (m : ℕ). NotAccepted d (command t f) (record { refusal = 0; answers = record { ticket = t; stream = m; response = failure e } ∷ []; device = d })) (sym s)
       (byAnswer t f e refl))
 
@@ -78,7 +79,7 @@ module _ (d : Device) (h : wellFormed d ≡ true) (n : ℕ) where
   with-owner a s acc = of a s acc (fit a .rejected (sym (fit a .is) ∙ acc))
     where
       fit : (a : Act) → FitsAct n a self (serve (around d n) n self a)
-      fit a = serve-fits (around d n) n self a (sane-record n d h)
+      fit a = serve-fits (around d n) n self a (not-again n d h) (sane-record n d h)
 
       of : (a : Act) → streamOf a ≡ some n → acceptedReply (serve (around d n) n self a) ≡ false → Rejected n (stepTicket a) self (serve (around d n) n self a)
           → NotAccepted d a (deviceReply d n (serve (around d n) n self a))
@@ -127,15 +128,11 @@ module _ (L : Layout) (t : List ℕ) (a : Act) (room : List ℕ) where
     lent = not-refused (length t) (length room) (valid L t) e
 
     well : wellFormed device ≡ true
-    unfolding valid
-    well = and-left (wellFormed device) (same (take tableWords t) (L .encode device)) (lent .good)
+    well = valid-device L t (lent .good)
 
     -- the device's words, and those behind them, are the table
     stays : L .encode device ++ drop tableWords t ≡ t
-    unfolding valid
-    stays =
-        ap (λ (x : List ℕ). x ++ drop tableWords t) (sym (same-true (take tableWords t) (L .encode device) (and-right (wellFormed device) (same (take tableWords t) (L .encode device)) (lent .good))))
-        ∙ take-append-drop tableWords t
+    stays = valid-whole L t (lent .good)
 
     stepped : stepOn device asStep ≡ performed
     stepped =

@@ -1,30 +1,33 @@
 -- A step leaves a well-formed device well formed.
 use mathlib.Core.Path.{_≡_, refl, sym, ap, _∙_, subst}
-use mathlib.Core.Bool.{true, false, not, _&&_}
+use mathlib.Core.Bool.{Bool, true, false, not, _&&_, and-false, or-true}
 use mathlib.Core.Option.{Option, none, some}
 use mathlib.Core.List.{List, [], _∷_}
-use Prim.Native.Nat.{ℕ, suc, _^_}
+use Prim.Native.Nat.{ℕ, suc, _^_, _<_}
+use native.Mathlib.Omega.{arith}
 use lib.ListN.{length}
 use lib.Dec.{eqb, ltb}
-use borrow.Author.Tests.{lt-ltb, eqb-true, eq-eqb, not-true, not-false}
+use borrow.Author.Tests.{lt-ltb, ltb-true, eqb-true, eq-eqb, not-true, not-false}
 use Rattle.laws.specs.Tests.{within}
 use Rattle.laws.specs.Lists.{allOf, isNone}
 use Rattle.laws.proofs.Tests.{never, both, and-left, and-right}
-use Rattle.laws.proofs.Lists.{decide, cond-elim, eqb-sym}
+use Rattle.laws.proofs.Lists.{decide, cond-elim, eqb-sym, none-is}
 use Rattle.laws.proofs.InOrder.{tests-cases, tests-all}
 use Rattle.field.specs.Field.{field}
-use Rattle.model.specs.Numbers.{streamPlaces, queueSlots, firstCoded, lastCoded, headerBytes}
-use Rattle.model.specs.Device.{QueueType, input, output, State, created, queued, dequeued, Slot, free, resource, Queue, Stream, Place, vacant, occupied, Device, newQueue, newStream, fresh, queueOf, withQueue, withDrain, withSlots, present, addResource, setState, stopped, stopAll, freeAll, recordOf, place, replace, install, putRecord}
+use Rattle.model.specs.Numbers.{streamPlaces, queueSlots, streamNumbers, firstCoded, lastCoded, headerBytes}
+use Rattle.model.specs.Device.{QueueType, input, output, State, created, queued, dequeued, Slot, free, resource, Queue, Stream, Place, vacant, occupied, Device, newQueue, newStream, fresh, queueOf, withQueue, withDrain, withSlots, present, addResource, setState, stopped, stopAll, freeAll, recordOf, noPlace, place, replace, install, putRecord, isSpent, spend, isNew, spentAfter, putBack}
 use Rattle.model.specs.Frames.{QueueCommand, createResource, queueResource, destroyAll, clear, getParameters, setParameters, LiveCommand, word, streamId, codedFormat, resourceId, timestampSent}
 use Rattle.model.specs.Replies.{Reply, Request, fail}
 use Rattle.model.specs.Commands.{Surroundings, onCreate, onDestroy, onDrain, onCreateResource, onQueue, onDestroyAll, onClear, onGet, onSet, onQueueOf, onLive, onCommand, drainLeft, cleared, goodExtent, badExtent}
 use Rattle.model.specs.Steps.{Act, command, finish, drained, streamOf, serve, DeviceReply, around}
-use Rattle.model.specs.WellFormed.{u8, u32, u64, goodState, goodSlot, distinctSlots, goodSlots, goodQueue, goodDrain, goodStream, goodPlace, distinctPlaces, goodPlaces, wellFormed, goodAct}
+use Rattle.model.specs.WellFormed.{u8, u32, u64, goodState, goodSlot, distinctSlots, goodSlots, goodQueue, goodDrain, goodStream, goodPlace, distinctPlaces, goodPlaces, spentIn, goodSpent, wellFormed, goodAct}
 use Rattle.model.specs.Promises.{StaysWellFormed}
 use Rattle.field.proofs.Laws.{field-below}
 use Rattle.model.proofs.Slots.{Distinct, distinct-set, distinct-stop, distinct-free, distinct-add}
 use Rattle.model.proofs.Origins.{live-cases, command-cases, finish-cases, drained-cases, step-cases}
 use Rattle.model.proofs.Places.{alone, alone-head, alone-tail, replace-other, replace-absent, install-other, all-record, all-put}
+use Rattle.model.proofs.Spent.{spend-same, spend-keeps}
+use Rattle.model.proofs.Seen.{NotAgain, serve-next, nextOf, after-length}
 
 -- Numbers in frames
 
@@ -274,7 +277,26 @@ are-places ps g = both (eq-eqb (length ps) streamPlaces (g .size)) (both (g .eac
 -- the places of a well-formed device
 pub well-places : (d : Device) → wellFormed d ≡ true → GoodPlaces (d .places)
 unfolding wellFormed
-well-places d h = places-are (d .places) h
+well-places d h = places-are (d .places) (and-left (goodPlaces (d .places)) _ h)
+
+-- and its spent numbers
+pub record GoodSpent (ps : List Place) (s : List Bool) : Type 0 where
+  pub size : length s ≡ streamNumbers
+  pub each : allOf (spentIn s) ps ≡ true
+
+pub well-spent : (d : Device) → wellFormed d ≡ true → GoodSpent (d .places) (d .spent)
+unfolding wellFormed
+well-spent d h =
+    let g = and-right (goodPlaces (d .places)) _ h in
+    record { size = eqb-true _ _ (and-left (eqb (length (d .spent)) streamNumbers) _ g); each = and-right (eqb (length (d .spent)) streamNumbers) _ g }
+
+-- so that no creation may take the number of a live stream
+pub not-again : (n : ℕ) (d : Device) → wellFormed d ≡ true → NotAgain (around d n) (recordOf n (d .places))
+not-again n d h = of (recordOf n (d .places)) (all-record (spentIn (d .spent)) n refl (d .places) (well-spent d h .each))
+  where
+    of : (r : Option Stream) → spentIn (d .spent) (place n r) ≡ true → NotAgain (around d n) r
+    of none e = tt
+    of (some b) e = let live : isSpent n (d .spent) ≡ true = e in simp (live, or-true (not (ltb n streamNumbers)))
 
 self-is : (n : ℕ) (r : Option Stream) → goodPlace (place n r) ≡ true → GoodSelf r
 self-is n none h = tt
@@ -332,6 +354,45 @@ put-good : (n : ℕ) (r : Option Stream) (ps : List Place) → u32 n ≡ true �
 put-good n r ps u g h =
     record { size = length-put n r ps ∙ h .size; each = all-put goodPlace n r (is-self n r u g) ps (h .each); apart = apart-put n r ps (h .apart) }
 
+-- Spent numbers
+
+-- a number that comes to life was not spent, and so is one of those that are kept
+new-usable : (n : ℕ) (d : Device) (a : Act) → isNew (recordOf n (d .places)) (nextOf n d a) ≡ true → n < streamNumbers
+new-usable n d a e =
+    decide (ltb n streamNumbers) (λ h. ltb-true n streamNumbers h)
+    (λ h. never (sym e ∙ ap (λ (r : Option Stream). isNew (recordOf n (d .places)) r) (gone h) ∙ and-false (isNone (recordOf n (d .places)))))
+  where
+    self : recordOf n (d .places) ≡ none
+    self = none-is (recordOf n (d .places)) (and-left (isNone (recordOf n (d .places))) _ e)
+
+    gone : ltb n streamNumbers ≡ false → nextOf n d a ≡ none
+    gone h = ap (λ (r : Option Stream). serve (around d n) n r a .next) self ∙ serve-next (around d n) (simp (h, or-true (noPlace (d .places)))) n a
+
+module _ (n : ℕ) (s : List Bool) where
+  spent-keeps : (ps : List Place) → allOf (spentIn s) ps ≡ true → allOf (spentIn (spend n s)) ps ≡ true
+  spent-keeps [] h = refl
+  spent-keeps (vacant ∷ ps) h = spent-keeps ps h
+  spent-keeps (occupied m b ∷ ps) h = both (spend-keeps n s m (and-left (isSpent m s) _ h)) (spent-keeps ps (and-right (isSpent m s) _ h))
+
+-- the number of a record that is left is spent: it was, or the record is new
+left-spent : (n : ℕ) (r : Option Stream) (ps : List Place) (s : List Bool) → GoodSpent ps s → (isNew (recordOf n ps) r ≡ true → n < streamNumbers)
+    → spentIn (spentAfter n (recordOf n ps) r s) (place n r) ≡ true
+left-spent n none ps s g new = refl
+left-spent n (some b) ps s g new = of (recordOf n ps) (all-record (spentIn s) n refl ps (g .each)) new
+  where
+    of : (old : Option Stream) → spentIn s (place n old) ≡ true → (isNew old (some b) ≡ true → n < streamNumbers) → isSpent n (spentAfter n old (some b) s) ≡ true
+    of none h new = spend-same n s (omega (arith, new refl, g .size))
+    of (some c) h new = h
+
+spent-put : (n : ℕ) (r : Option Stream) (d : Device) → GoodSpent (d .places) (d .spent) → (isNew (recordOf n (d .places)) r ≡ true → n < streamNumbers)
+    → goodSpent (putBack n r d .places) (putBack n r d .spent) ≡ true
+spent-put n r d g new =
+    let s = spentAfter n (recordOf n (d .places)) r (d .spent) in
+    both
+    (eq-eqb (length s) streamNumbers (after-length n (recordOf n (d .places)) r (d .spent) ∙ g .size))
+    (all-put (spentIn s) n r (left-spent n r (d .places) (d .spent) g new) (d .places)
+    (cond-elim (λ (x : List Bool). allOf (spentIn x) (d .places) ≡ true) (isNew (recordOf n (d .places)) r) (λ _. spent-keeps n (d .spent) (d .places) (g .each)) (λ _. g .each)))
+
 stream-u32 : (a : Act) (n : ℕ) → goodAct a ≡ true → streamOf a ≡ some n → u32 n ≡ true
 unfolding streamOf
 stream-u32 (command t f) n m e =
@@ -348,6 +409,7 @@ well-fresh = refl
 pub stays-well-formed : StaysWellFormed
 unfolding wellFormed
 stays-well-formed d s h m =
-    step-cases (λ (o : DeviceReply). goodPlaces (o .device .places) ≡ true) d s (λ k. h)
-    (λ n e. are-places _ (put-good n _ (d .places) (stream-u32 (s .act) n m e)
-    (serve-good (around d n) n (recordOf n (d .places)) (s .act) (well-record n d h) m) (places-are (d .places) h)))
+    step-cases (λ (o : DeviceReply). wellFormed (o .device) ≡ true) d s (λ k _. h)
+    (λ n e. both (are-places _ (put-good n _ (d .places) (stream-u32 (s .act) n m e)
+    (serve-good (around d n) n (recordOf n (d .places)) (s .act) (well-record n d h) m) (well-places d h)))
+    (spent-put n (nextOf n d (s .act)) d (well-spent d h) (new-usable n d (s .act))))

@@ -73,6 +73,13 @@ askCreateOf n = ask 1 (0x0101 ∷ n ∷ 0 ∷ 0 ∷ 0x1000 ∷ 0 ∷ replicate 1
 abbrev pub askCreate : Act
 askCreate = askCreateOf 7
 
+-- its creation with format 0x0FFF, which is refused, and its destruction
+abbrev pub askBadCreate : Act
+askBadCreate = ask 1 (0x0101 ∷ 7 ∷ 0 ∷ 0 ∷ 0x0FFF ∷ 0 ∷ replicate 16 0)
+
+abbrev pub askDestroy : Act
+askDestroy = ask 6 (0x0102 ∷ 7 ∷ [])
+
 -- a resource with one entry of one byte
 abbrev pub askResource : ℕ → ℕ → Act
 askResource q r = ask 2 (0x0104 ∷ 7 ∷ q ∷ r ∷ 1 ∷ 1 ∷ (replicate 8 0 ++ 1 ∷ (replicate 7 0 ++ 0 ∷ 0 ∷ 1 ∷ 0 ∷ [])))
@@ -172,7 +179,16 @@ outputCleared = allPending ++ askClear 8 0x101 ∷ []
 abbrev pub withOutputs : List Slot → Device
 withOutputs s = putBack 7 (some (withQueue output (withSlots s newQueue) (newStream 0x1000))) fresh
 
+-- How a stream number is spent: a destroyed stream's is not taken again, a refused creation's is, and the last one is 1,023
+abbrev pub spentCases : List Case
+spentCases =
+    case (askCreate ∷ askDestroy ∷ []) (askCreate gives failsWith 1 0x0302 ∷ [])
+    ∷ case (askBadCreate ∷ []) (askCreate gives successTo 1 ∷ [])
+    ∷ case [] (askCreateOf 1023 gives (1 ∷ 8 ∷ 0x0200 ∷ 1023 ∷ []) ∷ askCreateOf 1024 gives (1 ∷ 8 ∷ 0x0302 ∷ 1024 ∷ []) ∷ [])
+    ∷ []
+
 pub record MoreCases : Type 0 where
+  pub spent-numbers : allOf passes spentCases ≡ true
   -- a command of an unknown type, and a report that is refused, belong to the number in them; a command of 7 bytes belongs to none
   pub owners : map (belongs 7) (
       eventAfter [] (ask 5 (0x0100 ∷ 7 ∷ []))

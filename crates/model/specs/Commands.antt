@@ -17,13 +17,14 @@ use Rattle.model.specs.Frames.{QueueCommand, createResource, queueResour
 use Rattle.model.specs.Answers.{ErrorCode, invalidOperation, outOfMemory, invalidStream, invalidResource, invalidParameter, unsupportedControl, success, bufferDone, drainDone, parameters, Answer}
 use Rattle.model.specs.Replies.{Reply, reply, Request, own, fail}
 
--- what a creation sees besides its own stream: whether every stream place holds something
+-- what a creation sees besides its own stream: whether every stream place holds something, and whether its number may not be taken
 pub record Surroundings : Type 0 where
   pub full : Bool
+  pub unusable : Bool
 
 -- the same surroundings, full or not
 abbrev pub withFull : Bool → Surroundings → Surroundings
-withFull f around = record { full = f }
+withFull f around = record { full = f; unusable = around .unusable }
 
 -- plain success, and the record that is left
 abbrev pub succeed : Request → Option Stream → TestList ErrorCode Reply
@@ -202,12 +203,12 @@ onLive drain c b = onDrain c b
 onLive control c b = fail c unsupportedControl
 onLive (toQueue k) c b = onNamed k c b (queueNamed (queueType (c .frame)))
 
--- The order that all commands share: the type, the length, whether the stream is live, the command's own list
+-- The order that all commands share: the type, the length, whether the stream is live or for a creation whether its number may be taken, the
+-- command's own list
 
--- only a creation is for a number that is not live
+-- a creation is for a number never used before, all other commands are for a live one
 abbrev pub onStream : Surroundings → Request → Command → Option Stream → Reply
-onStream around c create none = onCreate around c
-onStream around c create (some b) = fail c invalidStream
+onStream around c create self = cond (around .unusable) (fail c invalidStream) (onCreate around c)
 onStream around c (live k) none = fail c invalidStream
 onStream around c (live k) (some b) = onLive k c b
 

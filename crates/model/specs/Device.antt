@@ -1,14 +1,15 @@
--- What a table stands for: eight places for the records of live streams, and in each record two queues of sixteen slots for resources.
+-- What a table stands for: eight places for the records of live streams, in each record two queues of sixteen slots for resources, and which
+-- stream numbers are spent.
 -- A place is document 01's own word; it calls a slot a place too, and a pending drain an owed one.
 use Prim.Native.Nat.{ℕ}
-use mathlib.Core.Bool.{Bool, true, false, cond}
+use mathlib.Core.Bool.{Bool, true, false, cond, not, _&&_}
 use mathlib.Core.Option.{Option, none, some}
 use mathlib.Core.List.{List, [], _∷_}
-use lib.ListN.{replicate}
+use lib.ListN.{replicate, getD, set}
 use lib.Dec.{eqb}
 use Rattle.laws.specs.Lists.{isNone, numbersIn, standsIn}
 use Rattle.laws.specs.Ascending.{ascending}
-use Rattle.model.specs.Numbers.{streamPlaces, queueSlots}
+use Rattle.model.specs.Numbers.{streamPlaces, queueSlots, streamNumbers}
 
 -- the queue types: compressed input, pictures out
 pub data QueueType : Type 0 where
@@ -44,13 +45,14 @@ pub data Place : Type 0 where
   vacant : Place
   occupied : (number : ℕ) → Stream → Place
 
--- eight places
+-- eight places, and for each stream number whether it is spent: whether a creation of it has succeeded since the table was made fresh
 pub record Device : Type 0 where
   pub places : List Place
+  pub spent : List Bool
 
--- no stream
+-- no stream, and no number spent
 unfoldable pub fresh : Device
-fresh = record { places = replicate streamPlaces vacant }
+fresh = record { places = replicate streamPlaces vacant; spent = replicate streamNumbers false }
 
 -- what a creation leaves: 640 by 480, rate 0, no resources
 abbrev pub newQueue : Queue
@@ -199,12 +201,26 @@ install n r (occupied m b ∷ ps) = occupied m b ∷ install n r ps
 unfoldable pub putRecord : ℕ → Option Stream → List Place → List Place
 putRecord n r ps = cond (isNone (recordOf n ps)) (install n r ps) (replace n r ps)
 
+-- Spent numbers
+
+-- the number is spent
+unfoldable pub isSpent : ℕ → List Bool → Bool
+isSpent n s = getD s n false
+
+-- the number is spent from now on
+unfoldable pub spend : ℕ → List Bool → List Bool
+spend n s = set s n true
+
 -- The device
 
--- the device with other places
-abbrev pub withPlaces : List Place → Device → Device
-withPlaces ps d = record { places = ps }
+-- a step that leaves a record where there was none is a creation that succeeded
+abbrev pub isNew : Option Stream → Option Stream → Bool
+isNew old next = isNone old && not (isNone next)
+
+-- the spent numbers after a step of n that found one record and leaves another: a creation that succeeds spends its number
+abbrev pub spentAfter : ℕ → Option Stream → Option Stream → List Bool → List Bool
+spentAfter n old next s = cond (isNew old next) (spend n s) s
 
 -- the device after a step of n that leaves the record r
 abbrev pub putBack : ℕ → Option Stream → Device → Device
-putBack n r d = withPlaces (putRecord n r (d .places)) d
+putBack n r d = record { places = putRecord n r (d .places); spent = spentAfter n (recordOf n (d .places)) r (d .spent) }

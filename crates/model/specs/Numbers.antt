@@ -3,7 +3,7 @@ use Prim.Native.Nat.{ℕ}
 
 -- the used words of the lent table
 abbrev pub tableWords : ℕ
-tableWords = 4096
+tableWords = 4160
 
 -- the bytes of answer room that a step must be lent
 abbrev pub answerRoom : ℕ
@@ -15,6 +15,10 @@ streamPlaces = 8
 
 abbrev pub queueSlots : ℕ
 queueSlots = 16
+
+-- the stream numbers that a creation may take: 0 to 1,023
+abbrev pub streamNumbers : ℕ
+streamNumbers = 1024
 
 -- the coded formats, from MPEG2 to VP9
 abbrev pub firstCoded : ℕ

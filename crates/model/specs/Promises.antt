@@ -2,16 +2,17 @@
 -- proved there of every layout, or of every lawful one (`Lawful`), and then of the one layout that is used: `TablePromises` in table/specs/Promises.
 use Prim.Native.Nat.{ℕ, _≤_, _<_}
 use mathlib.Core.Path.{_≡_}
-use mathlib.Core.Bool.{Bool, true, false, not, _&&_, _||_}
-use mathlib.Core.List.{List, [], _∷_, map}
+use mathlib.Core.Bool.{Bool, true, false, cond, not, _&&_, _||_}
+use mathlib.Core.List.{List, [], _∷_, _++_, map}
 use lib.ListN.{length, take, drop}
-use lib.Dec.{eqb, leb}
-use Rattle.laws.specs.Lists.{allOf, howMany}
+use lib.Dec.{eqb, ltb, leb}
+use Rattle.laws.specs.Lists.{allOf, Each, howMany}
+use Rattle.field.specs.Field.{field}
 use Rattle.model.specs.Numbers.{tableWords, answerRoom}
 use Rattle.model.specs.Device.{Place, vacant, occupied, Device, fresh}
 use Rattle.model.specs.Frames.{streamId}
 use Rattle.model.specs.Answers.{ErrorCode, code, Answer, responseOf, wordBytes, bytesOf, Written, answersIn}
-use Rattle.model.specs.Steps.{Act, command, finish, drained, Step, stepOn, Event, eventOf, accepted, outOfMemoryAt}
+use Rattle.model.specs.Steps.{Act, command, finish, drained, Step, stepOn, Event, eventOf, accepted, belongs, outOfMemoryAt}
 use Rattle.model.specs.WellFormed.{wellFormed, goodAct, goodSteps}
 use Rattle.model.specs.Tables.{Layout, Effect, untouched, valid, effect, freshen, tableEvent, tableEvents}
 
@@ -117,3 +118,23 @@ NoTableRefusal L = (t : List ℕ) (ss : List Step) → tableWords ≤ length t �
 -- a step writes at most 1,056 bytes
 abbrev pub WritesAtMost : Layout → Type 0
 WritesAtMost L = (t : List ℕ) (a : Act) (room : List ℕ) → effect L t a room .written ≤ 1056
+
+-- A stream number is spent for good, so that what comes late for a destroyed stream reaches nobody. The numbers below are 01's, written out, so that a
+-- mistake in the device's definitions shows; only the bytes of room go by their name.
+
+-- what a step of a destroyed stream's number is answered, where the room is enough: a creation of 88 bytes 0x0302, a report refusal 5, or 6 for flags above 3
+abbrev pub ReachesNobody : Act → Event → Type 0
+ReachesNobody (command t f) e =
+    field 4 f 0 ≡ 0x0101 → length f ≡ 88 → (e .refusal ≡ 0) × (e .written ≡ 16) × (e .bytes ≡ wordBytes (t ∷ 8 ∷ 0x0302 ∷ field 4 f 4 ∷ []))
+ReachesNobody (finish n qt r flags ts) e = e .refusal ≡ cond (ltb 3 flags) 6 5
+ReachesNobody (drained n) e = e .refusal ≡ 5
+
+-- an event of the number n is not accepted, and reaches nobody
+abbrev pub Late : ℕ → Event → Type 0
+Late n e = belongs n e ≡ true → (accepted e ≡ false) × (answerRoom ≤ length (e .step .room) → ReachesNobody (e .step .act) e)
+
+-- from any valid table: after an accepted destruction of a stream, every later step of its number is late
+abbrev pub SpentForGood : Layout → Type 0
+SpentForGood L =
+    (t : List ℕ) (ss : List Step) (before later : List Event) (e : Event) (ticket : ℕ) (f : List ℕ) → valid L t ≡ true → goodSteps ss ≡ true
+    → tableEvents L t ss ≡ before ++ e ∷ later → e .step .act ≡ command ticket f → field 4 f 0 ≡ 0x0102 → accepted e ≡ true → Each (Late (field 4 f 4)) later

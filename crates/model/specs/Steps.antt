@@ -1,6 +1,6 @@
 -- Steps on a device, lists of steps, and what the host sees of them. A step, its ticket and its result are document 01's words.
 use Prim.Native.Nat.{ℕ}
-use mathlib.Core.Bool.{Bool, true, false, cond, not, _&&_}
+use mathlib.Core.Bool.{Bool, true, false, cond, not, _&&_, _||_}
 use mathlib.Core.Option.{Option, none, some}
 use mathlib.Core.List.{List, [], _∷_}
 use lib.ListN.{length}
@@ -8,8 +8,8 @@ use lib.Dec.{eqb, ltb}
 use Rattle.laws.specs.Tests.{within}
 use Rattle.laws.specs.Lists.{anyOf}
 use Rattle.field.specs.Field.{field}
-use Rattle.model.specs.Numbers.{tableWords, answerRoom, headerBytes}
-use Rattle.model.specs.Device.{Stream, Device, recordOf, noPlace, putBack}
+use Rattle.model.specs.Numbers.{tableWords, answerRoom, headerBytes, streamNumbers}
+use Rattle.model.specs.Device.{Stream, Device, recordOf, noPlace, isSpent, putBack}
 use Rattle.model.specs.Frames.{word, streamId}
 use Rattle.model.specs.Answers.{Answer, bytesOf, Written, answersIn}
 use Rattle.model.specs.Replies.{Reply}
@@ -53,9 +53,9 @@ pub record DeviceReply : Type 0 where
 abbrev pub refused : ℕ → Device → DeviceReply
 refused k d = record { refusal = k; answers = []; device = d }
 
--- what a step of n sees of a device besides its own stream
+-- what a step of n sees of a device besides its own stream. A number may not be taken where it is above the last or spent.
 abbrev pub around : Device → ℕ → Surroundings
-around d n = record { full = noPlace (d .places) }
+around d n = record { full = noPlace (d .places); unusable = not (ltb n streamNumbers) || isSpent n (d .spent) }
 
 -- the record of the stream n is looked up, served and put back
 abbrev pub performOf : Device → Act → Option ℕ → DeviceReply

@@ -7,8 +7,8 @@ use lib.ListN.{length}
 use lib.Dec.{eqb, ltb}
 use Rattle.laws.specs.Tests.{within}
 use Rattle.laws.specs.Lists.{allOf, numbersIn, distinct}
-use Rattle.model.specs.Numbers.{streamPlaces, queueSlots, firstCoded, lastCoded}
-use Rattle.model.specs.Device.{State, created, queued, dequeued, Slot, free, resource, Queue, Stream, Place, vacant, occupied, Device, slotNumber, placeNumber}
+use Rattle.model.specs.Numbers.{streamPlaces, queueSlots, streamNumbers, firstCoded, lastCoded}
+use Rattle.model.specs.Device.{State, created, queued, dequeued, Slot, free, resource, Queue, Stream, Place, vacant, occupied, Device, slotNumber, placeNumber, isSpent}
 use Rattle.model.specs.Commands.{goodExtent}
 use Rattle.model.specs.Steps.{Act, command, finish, drained, Step}
 
@@ -67,9 +67,18 @@ distinctPlaces ps = distinct (numbersIn placeNumber ps)
 abbrev pub goodPlaces : List Place → Bool
 goodPlaces ps = eqb (length ps) streamPlaces && (allOf goodPlace ps && distinctPlaces ps)
 
+-- vacant, or the number of its stream is spent
+abbrev pub spentIn : List Bool → Place → Bool
+spentIn s vacant = true
+spentIn s (occupied n b) = isSpent n s
+
+-- a truth value for each number, and every live number is spent; any other may be
+abbrev pub goodSpent : List Place → List Bool → Bool
+goodSpent ps s = eqb (length s) streamNumbers && allOf (spentIn s) ps
+
 -- a device that a valid table stands for
 unfoldable pub wellFormed : Device → Bool
-wellFormed d = goodPlaces (d .places)
+wellFormed d = goodPlaces (d .places) && goodSpent (d .places) (d .spent)
 
 -- The host's types: a caller cannot lend anything else
 

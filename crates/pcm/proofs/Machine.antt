@@ -7,8 +7,9 @@ use Prim.Native.Nat.{ℕ}
 use native.Mathlib.Omega.{arith}
 use lib.Dec.{eqb}
 use borrow.Author.Tests.{eqb-true}
+use Rattle.laws.specs.Lists.{Each}
 use Rattle.laws.proofs.Tests.{and-left, and-right}
-use Rattle.laws.proofs.Lists.{decide, Each, each-all}
+use Rattle.laws.proofs.Lists.{decide, each-all}
 use Rattle.pcm.specs.Lifecycle.{Transition, lifecycle, nextIn, nextState, isTransition}
 use Rattle.pcm.specs.Control.{isState}
 

@@ -25,6 +25,9 @@ pub const HEADER: usize = 8;
 
 pub const ANSWER_ROOM: usize = 1056;
 
+// The stream numbers that a creation may take: those below this one.
+pub const STREAM_NUMBERS: u32 = 1024;
+
 // The types of answers: plain success, which a drain's answer has too, a buffer's answer, and the answer to a get.
 pub const OK: u32 = 0x0200;
 

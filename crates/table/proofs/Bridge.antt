@@ -11,10 +11,11 @@ use borrow.Author.Tests.{eqb-true}
 use Rattle.laws.specs.Lists.{isNone}
 use Rattle.laws.proofs.Lists.{decide}
 use Rattle.laws.proofs.Positions.{later-some, later-none}
-use Rattle.model.specs.Device.{Stream, Place, vacant, occupied, recordOf, noPlace, place, replace, install, putRecord}
+use Rattle.model.specs.Device.{Stream, Place, vacant, occupied, Device, recordOf, noPlace, place, replace, install, putRecord, spend, spentAfter, putBack}
 use Rattle.model.specs.WellFormed.{distinctPlaces}
 use Rattle.model.proofs.Places.{alone-head, alone-tail, replace-absent}
 use Rattle.table.specs.Search.{placeAt, isStream, findStream, findVacant}
+use Rattle.table.proofs.Records.{withPlaces, withSpent}
 
 some-is : {k : ℕ} → _≡_ {A = Option ℕ} (some 0) (some k) → k ≡ 0
 some-is e = cc
@@ -72,9 +73,12 @@ stream-missing n (occupied m b ∷ ps) e =
     (λ h. simp h (stream-missing n ps (later-none (findStream n ps) (simp h at e))))
 
 -- its record is put back, or its place becomes vacant
-pub stream-put : (n k : ℕ) (ps : List Place) → LiveAt n k ps → distinctPlaces ps ≡ true → (r : Option Stream) → putRecord n r ps ≡ set ps k (place n r)
+pub stream-put : (n k : ℕ) (d : Device) → LiveAt n k (d .places) → distinctPlaces (d .places) ≡ true → (r : Option Stream) → putBack n r d ≡ withPlaces (set (d .places) k (place n r)) d
 unfolding putRecord
-stream-put n k ps a x r = rw (a .known) (a .replaced x r)
+stream-put n k d a x r = λ i. record { places = put i; spent = ap (λ (old : Option Stream). spentAfter n old r (d .spent)) (a .known) i }
+  where
+    put : putRecord n r (d .places) ≡ set (d .places) k (place n r)
+    put = rw (a .known) (a .replaced x r)
 
 -- The lowest vacant place is k
 
@@ -99,7 +103,11 @@ vacant-missing [] e = refl
 vacant-missing (vacant ∷ ps) e = absurd (let z : _≡_ {A = ℕ} 0 1 = cc in omega arith)
 vacant-missing (occupied m b ∷ ps) e = vacant-missing ps (later-none (findVacant ps) e)
 
--- a new stream's record is put there
-pub vacant-put : (n k : ℕ) (b : Stream) (ps : List Place) → VacantAt k ps → recordOf n ps ≡ none → putRecord n (some b) ps ≡ set ps k (occupied n b)
+-- a new stream's record is put there, and its number is spent
+pub vacant-put : (n k : ℕ) (b : Stream) (d : Device) → VacantAt k (d .places) → recordOf n (d .places) ≡ none
+    → putBack n (some b) d ≡ withPlaces (set (d .places) k (occupied n b)) (withSpent (spend n (d .spent)) d)
 unfolding putRecord
-vacant-put n k b ps a x = rw x (a .installed n (some b))
+vacant-put n k b d a x = λ i. record { places = put i; spent = ap (λ (old : Option Stream). spentAfter n old (some b) (d .spent)) x i }
+  where
+    put : putRecord n (some b) (d .places) ≡ set (d .places) k (occupied n b)
+    put = rw x (a .installed n (some b))

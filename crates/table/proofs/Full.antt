@@ -2,6 +2,7 @@
 use mathlib.Core.Path.{_≡_, refl}
 use mathlib.Core.Bool.{true}
 use Rattle.laws.specs.Tests.{within}
+use Rattle.model.specs.Device.{isSpent}
 use Rattle.model.specs.WellFormed.{u32, u64, wellFormed}
 use Rattle.model.proofs.Tables.{words-valid}
 use Rattle.table.specs.Full.{fullDevice, FullIsValid}
@@ -9,7 +10,7 @@ use Rattle.table.specs.Blocks.{layout}
 use Rattle.table.proofs.Theorems.{meets-laws}
 
 full-well : wellFormed fullDevice ≡ true
-unfolding wellFormed u32 u64 within
+unfolding wellFormed isSpent u32 u64 within
 full-well = refl
 
 pub full-is-valid : FullIsValid

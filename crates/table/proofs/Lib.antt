@@ -1,3 +1,4 @@
+pub mod Bits
 pub mod Records
 pub mod Theorems
 pub mod Full

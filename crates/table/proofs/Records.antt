@@ -1,6 +1,6 @@
 -- Laws of the words of a place and of a device: their lengths, the parts of a place, one place among the blocks, and that decoding undoes encoding.
 use mathlib.Core.Path.{_≡_, refl, sym, ap, ap₂, _∙_}
-use mathlib.Core.Bool.{true, false}
+use mathlib.Core.Bool.{Bool, true, false}
 use mathlib.Core.Option.{Option, none, some}
 use mathlib.Core.List.{List, _++_, append-assoc}
 use Prim.Native.Nat.{ℕ, _+_, _*_, _-_, _<_, _≤_}
@@ -15,12 +15,14 @@ use Rattle.laws.specs.Parts.{part, withPart, zeros}
 use Rattle.laws.proofs.Tests.{both, and-left, and-right}
 use Rattle.laws.proofs.Parts.{zero-length, zero-at, part-mid, withPart-mid, part-front, withPart-front, lent}
 use Rattle.laws.proofs.Pieces.{pieces-length, pieces-part, pieces-withPart, pieces-read}
-use Rattle.model.specs.Numbers.{tableWords}
-use Rattle.model.specs.Device.{QueueType, input, output, Queue, Stream, Place, vacant, occupied, Device, queueOf, withQueue, withPlaces}
+use Rattle.model.specs.Numbers.{tableWords, streamNumbers}
+use Rattle.model.specs.Device.{QueueType, input, output, Queue, Stream, Place, vacant, occupied, Device, queueOf, withQueue}
 use Rattle.queue.specs.Words.{queueWords, decodeQueue}
 use Rattle.queue.proofs.Records.{queue-length, decode-queue}
-use Rattle.table.specs.Blocks.{queueStart, drainWords, headWords, placeWords, blocks, blocksSize, behind, encode, drainIn, decodePlace, placesIn, decode}
+use Rattle.table.specs.Spent.{spentSize, spentWords, decodeSpent}
+use Rattle.table.specs.Blocks.{queueStart, drainWords, headWords, placeWords, blocks, blocksSize, unusedSize, behind, encode, drainIn, decodePlace, placesIn, decode}
 use Rattle.table.specs.Search.{placeAt, hasAllSlots}
+use Rattle.table.proofs.Bits.{spent-length, decode-spent}
 
 -- Lengths
 
@@ -112,11 +114,18 @@ pub place-read : (l : List ℕ) (ps : List Place) (k : ℕ) → length l ≡ blo
     → part (512 * k) (512 * k + 512 - 512 * k) l ≡ placeWords (placeAt k ps)
 place-read l ps k long h s e = rw (e, add-sub-cancel-left (512 * k) 512) (place-part ps k s (omega (arith, held-places l ps s long e)))
 
--- The blocks in the used words
+-- The blocks and the spent numbers in the used words
 
-pub behind-length : (d : Device) → length (behind d) ≡ 0
+-- the device with other places, and with other spent numbers
+abbrev pub withPlaces : List Place → Device → Device
+withPlaces ps d = record { places = ps; spent = d .spent }
+
+abbrev pub withSpent : List Bool → Device → Device
+withSpent s d = record { places = d .places; spent = s }
+
+behind-length : (d : Device) → length (behind d) ≡ spentSize + unusedSize
 unfolding behind
-behind-length d = refl
+behind-length d = simp (length-append, spent-length, zero-length)
 
 module _ (d : Device) (s : allOf hasAllSlots (d .places) ≡ true) (eight : length (d .places) ≡ 8) where
   all-blocks : length (blocks (d .places)) ≡ blocksSize
@@ -129,6 +138,21 @@ module _ (d : Device) (s : allOf hasAllSlots (d .places) ≡ true) (eight : leng
   pub blocks-front : take blocksSize (encode d) ≡ blocks (d .places)
   unfolding encode
   blocks-front = take-at (blocks (d .places)) (behind d) blocksSize all-blocks
+
+  -- the words of the spent numbers, which are lent and come back as those of s′
+  pub spent-part : part blocksSize spentSize (encode d) ≡ spentWords (d .spent)
+  unfolding encode behind
+  spent-part = part-mid (blocks (d .places)) (spentWords (d .spent)) (zeros unusedSize) blocksSize spentSize all-blocks (spent-length (d .spent))
+
+  spent-put : (s′ : List Bool) → withPart blocksSize spentSize (encode d) (spentWords s′) ≡ encode (withSpent s′ d)
+  unfolding encode behind
+  spent-put s′ = withPart-mid (blocks (d .places)) (spentWords (d .spent)) (zeros unusedSize) blocksSize spentSize all-blocks (spent-length (d .spent)) (spentWords s′)
+
+  pub spent-lent : (l ys : List ℕ) (s′ : List Bool) → l ≡ encode d → (part blocksSize spentSize l ≡ spentWords (d .spent) → ys ≡ spentWords s′)
+      → withPart blocksSize spentSize l ys ≡ encode (withSpent s′ d)
+  spent-lent l ys s′ e f =
+      lent blocksSize (blocksSize + spentSize) spentSize l (spentWords (d .spent)) (spentWords s′) (encode (withSpent s′ d)) ys (add-sub-cancel-left blocksSize spentSize)
+      (ap (part blocksSize spentSize) e ∙ spent-part) (ap (λ (w : List ℕ). withPart blocksSize spentSize w (spentWords s′)) e ∙ spent-put s′) f
 
   -- a block is lent, and comes back as that of p
   module _ (l : List ℕ) (k : ℕ) (h : k < 8) (e : l ≡ encode d) where
@@ -175,6 +199,9 @@ pub decode-places : (ps : List Place) → allOf hasAllSlots ps ≡ true → leng
 unfolding placesIn blocks
 decode-places ps s eight = rw eight at (pieces-read placeWords 512 hasAllSlots place-length decodePlace decode-place ps s)
 
-pub decode-device : (d : Device) → allOf hasAllSlots (d .places) ≡ true → length (d .places) ≡ 8 → decode (encode d) ≡ d
+pub decode-device : (d : Device) → allOf hasAllSlots (d .places) ≡ true → length (d .places) ≡ 8 → length (d .spent) ≡ streamNumbers → decode (encode d) ≡ d
 unfolding decode
-decode-device d s eight = λ i. record { places = (ap placesIn (blocks-front d s eight) ∙ decode-places (d .places) s eight) i }
+decode-device d s eight long = λ i. record {
+  places = (ap placesIn (blocks-front d s eight) ∙ decode-places (d .places) s eight) i;
+  spent = (ap decodeSpent (spent-part d s eight) ∙ decode-spent (d .spent) long) i;
+}

@@ -18,20 +18,23 @@ use Rattle.laws.proofs.Tests.{both, and-left, and-right, within-bounds}
 use Rattle.laws.proofs.Lists.{all-append, all-implied}
 use Rattle.laws.proofs.Parts.{zeros-append}
 use Rattle.laws.proofs.Pieces.{all-pieces}
-use Rattle.laws.proofs.Same.{same-refl, same-true}
-use Rattle.model.specs.Numbers.{tableWords, firstCoded, lastCoded}
+use Rattle.laws.proofs.Same.{same-refl}
+use Rattle.model.specs.Numbers.{tableWords, streamPlaces, streamNumbers, firstCoded, lastCoded}
 use Rattle.model.specs.Device.{created, queued, dequeued, Slot, free, resource, Queue, Stream, Place, vacant, occupied, Device, fresh}
 use Rattle.model.specs.Commands.{goodExtent}
 use Rattle.model.specs.WellFormed.{u32, u64, goodSlot, goodSlots, goodQueue, goodDrain, goodPlace, wellFormed}
 use Rattle.model.specs.Tables.{valid}
-use Rattle.model.proofs.WellFormed.{well-fresh, well-places}
-use Rattle.model.proofs.Tables.{on-tables, fresh-short, fresh-long}
+use Rattle.model.proofs.WellFormed.{well-fresh, well-places, well-spent}
+use Rattle.model.proofs.Tables.{valid-device, valid-used, on-tables, fresh-short, fresh-long}
 use Rattle.model.proofs.Refusals.{only-listed, no-table-refusal}
+use Rattle.model.proofs.SpentForGood.{spent-for-good}
 use Rattle.model.proofs.Unchanged.{refusal-changes-nothing, error-changes-nothing, keeps-rest, stays-valid, writes-at-most}
 use Rattle.queue.specs.Words.{slotWords, queueWords}
-use Rattle.table.specs.Blocks.{drainWords, headWords, placeWords, blocks, behind, encode, decode, layout}
+use Rattle.table.specs.Spent.{spentSize, bitsWord, numberWords, spentWords}
+use Rattle.table.specs.Blocks.{drainWords, headWords, placeWords, blocks, blocksSize, unusedSize, behind, encode, decode, layout}
 use Rattle.table.specs.Search.{hasAllSlots}
-use Rattle.table.specs.Promises.{MeetsLaws, ValidExactly, Narrow, FreshIsZero, ConditionThree, TablePromises}
+use Rattle.table.specs.Promises.{MeetsLaws, ValidExactly, Narrow, SpentBits, FreshIsZero, ConditionThree, TablePromises}
+use Rattle.table.proofs.Bits.{spent-narrow, bit-spent}
 use Rattle.table.proofs.Records.{used-length, decode-device}
 
 -- The two laws
@@ -66,20 +69,13 @@ module _ (d : Device) (h : wellFormed d ≡ true) where
   pub well-eight : length (d .places) ≡ 8
   well-eight = (well-places d h) .size
 
+  pub well-numbers : length (d .spent) ≡ streamNumbers
+  well-numbers = (well-spent d h) .size
+
 pub meets-laws : MeetsLaws
-meets-laws = record { size = λ d h. used-length d (well-sized d h) (well-eight d h); back = λ d h. decode-device d (well-sized d h) (well-eight d h) }
+meets-laws = record { size = λ d h. used-length d (well-sized d h) (well-eight d h); back = λ d h. decode-device d (well-sized d h) (well-eight d h) (well-numbers d h) }
 
 -- No rule is missing and none is added
-
--- a valid table's words are those of the device that they stand for
-module _ (t : List ℕ) (v : valid layout t ≡ true) where
-  pub valid-well : wellFormed (decode (take tableWords t)) ≡ true
-  unfolding valid
-  valid-well = and-left (wellFormed (decode (take tableWords t))) _ v
-
-  pub valid-words : take tableWords t ≡ encode (decode (take tableWords t))
-  unfolding valid
-  valid-words = same-true (take tableWords t) (encode (decode (take tableWords t))) (and-right (wellFormed (decode (take tableWords t))) _ v)
 
 -- only the used words count
 pub valid-front : (t : List ℕ) → valid layout (take tableWords t) ≡ valid layout t
@@ -89,7 +85,7 @@ valid-front t = ap (λ (w : List ℕ). wellFormed (decode w) && same w (encode (
 pub valid-exactly : ValidExactly
 unfolding valid
 valid-exactly t = (
-  λ v. (decode (take tableWords t), (valid-well t v, valid-words t v)),
+  λ v. (decode (take tableWords t), (valid-device layout t v, valid-used layout t v)),
   λ s.
       let d = s .0 in
       let back : decode (take tableWords t) ≡ d = ap decode (s .1 .1) ∙ meets-laws .back d (s .1 .0) in
@@ -163,7 +159,13 @@ pub narrow : Narrow
 unfolding encode blocks behind
 narrow d h =
     all-append u32 (blocks (d .places)) (behind d)
-    ∙ both (all-pieces u32 placeWords goodPlace narrow-place (d .places) ((well-places d h) .each)) refl
+    ∙ both (all-pieces u32 placeWords goodPlace narrow-place (d .places) ((well-places d h) .each))
+    (all-append u32 (spentWords (d .spent)) (zeros unusedSize) ∙ both (spent-narrow (d .spent) (well-numbers d h)) (narrow-zeros unusedSize))
+
+-- A number's bit
+
+pub spent-bits : SpentBits
+spent-bits s long n h = bit-spent s long n h
 
 -- No streams
 
@@ -179,13 +181,13 @@ vacant-zero (suc n) =
     ∙ zeros-append 512 (512 * n)
     ∙ ap zeros (let next : 512 + 512 * n ≡ 512 * suc n = omega (arith, mul-suc 512 n) in next)
 
-behind-zero : behind fresh ≡ zeros 0
-unfolding behind zeros
+behind-zero : behind fresh ≡ zeros (spentSize + unusedSize)
+unfolding behind fresh spentWords numberWords bitsWord zeros
 behind-zero = refl
 
 pub fresh-is-zero : FreshIsZero
 unfolding encode fresh
-fresh-is-zero = ap₂ _++_ (vacant-zero 8) behind-zero ∙ zeros-append 4096 0
+fresh-is-zero = ap₂ _++_ (vacant-zero streamPlaces) behind-zero ∙ zeros-append blocksSize (spentSize + unusedSize)
 
 pub zero-is-fresh : decode (zeros tableWords) ≡ fresh
 zero-is-fresh = ap decode (sym fresh-is-zero) ∙ meets-laws .back fresh well-fresh
@@ -207,4 +209,5 @@ table-promises =
       onlyListed = only-listed layout;
       noTableRefusal = no-table-refusal layout meets-laws;
       writesAtMost = writes-at-most layout;
+      spentForGood = spent-for-good layout meets-laws;
     }

@@ -10,6 +10,7 @@ use Rattle.model.specs.Numbers.{streamPlaces}
 use Rattle.model.specs.Device.{QueueType, input, output, Place, vacant, occupied, Device}
 use Rattle.model.specs.Tables.{Layout}
 use Rattle.queue.specs.Words.{queueSize, queueWords, decodeQueue}
+use Rattle.table.specs.Spent.{spentSize, spentWords, decodeSpent}
 
 -- a place is a block of 512 words: live (0 or 1), number, coded format, drain pending (0 or 1), drain ticket, three words without use, the
 -- input queue from 8, the output queue from 92, and from 176 words without use; words without use are zero, and so is a vacant place
@@ -47,9 +48,13 @@ blocks ps = pieces placeWords ps
 abbrev pub blocksSize : ℕ
 blocksSize = 4096
 
--- the words behind the blocks: there are none
+-- the words without use behind those of the spent numbers
+abbrev pub unusedSize : ℕ
+unusedSize = 32
+
+-- the words behind the blocks: those of the spent numbers, and words without use
 unfoldable pub behind : Device → List ℕ
-behind d = []
+behind d = spentWords (d .spent) ++ zeros unusedSize
 
 -- the used words of a table: the blocks of the places, and the words behind them
 unfoldable pub encode : Device → List ℕ
@@ -80,7 +85,7 @@ placesIn w = readPieces decodePlace placeSize streamPlaces w
 
 -- the device that the used words of a table stand for
 unfoldable pub decode : List ℕ → Device
-decode w = record { places = placesIn (take blocksSize w) }
+decode w = record { places = placesIn (take blocksSize w); spent = decodeSpent (part blocksSize spentSize w) }
 
 -- the one layout of this device
 abbrev pub layout : Layout

@@ -1,11 +1,12 @@
--- A device with no room left and every number at an edge: the rules do not shut it out, and its table is valid.
+-- A device with no room left, every number spent and the others at an edge: the rules do not shut it out, and its table is valid.
 use Prim.Native.Nat.{ℕ, zero, suc}
 use mathlib.Core.Path.{_≡_}
 use mathlib.Core.Bool.{Bool, true, false, _&&_}
 use mathlib.Core.Option.{some}
 use mathlib.Core.List.{List, [], _∷_, _++_}
+use lib.ListN.{replicate}
 use Rattle.laws.specs.Lists.{allOf}
-use Rattle.model.specs.Numbers.{streamPlaces, queueSlots}
+use Rattle.model.specs.Numbers.{streamPlaces, queueSlots, streamNumbers}
 use Rattle.model.specs.Device.{queued, Slot, resource, Queue, Place, vacant, occupied, Device, noSlot, noPlace}
 use Rattle.model.specs.WellFormed.{wellFormed}
 use Rattle.model.specs.Tables.{valid}
@@ -25,7 +26,7 @@ fullPlaces zero = []
 fullPlaces (suc n) = occupied n (record { format = 0x1005; draining = some 0xFFFFFFFF; inputs = fullQueue; outputs = fullQueue }) ∷ fullPlaces n
 
 abbrev pub fullDevice : Device
-fullDevice = record { places = fullPlaces streamPlaces }
+fullDevice = record { places = fullPlaces streamPlaces; spent = replicate streamNumbers true }
 
 -- no slot of the place is free
 abbrev pub noSlotIn : Place → Bool

@@ -1,3 +1,4 @@
+pub mod Spent
 pub mod Blocks
 pub mod Search
 pub mod Values

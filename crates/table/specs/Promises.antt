@@ -1,18 +1,19 @@
 -- What is promised of the table's layout and over its tables. Each statement is proved in proofs/Theorems.
-use Prim.Native.Nat.{ℕ}
+use Prim.Native.Nat.{ℕ, _<_}
 use mathlib.Core.Path.{_≡_}
-use mathlib.Core.Bool.{true}
+use mathlib.Core.Bool.{Bool, true}
 use mathlib.Core.Logic.{_↔_}
 use mathlib.Core.List.{List}
-use lib.ListN.{take}
+use lib.ListN.{length, take}
 use Rattle.laws.specs.Lists.{allOf}
 use Rattle.laws.specs.Parts.{zeros}
-use Rattle.model.specs.Numbers.{tableWords}
-use Rattle.model.specs.Device.{Device, fresh}
+use Rattle.model.specs.Numbers.{tableWords, streamNumbers}
+use Rattle.model.specs.Device.{Device, fresh, isSpent}
 use Rattle.model.specs.WellFormed.{u32, wellFormed}
 use Rattle.model.specs.Tables.{Lawful, valid}
-use Rattle.model.specs.Promises.{FreshShort, FreshLong, RefusalChangesNothing, ErrorChangesNothing, KeepsRest, StaysValid, OnlyListed, NoTableRefusal, WritesAtMost}
+use Rattle.model.specs.Promises.{FreshShort, FreshLong, RefusalChangesNothing, ErrorChangesNothing, KeepsRest, StaysValid, OnlyListed, NoTableRefusal, WritesAtMost, SpentForGood}
 use Rattle.model.specs.Condition3.{OnTables}
+use Rattle.table.specs.Spent.{spentWords, numberBit}
 use Rattle.table.specs.Blocks.{encode, layout}
 
 -- it meets the two laws
@@ -31,7 +32,11 @@ ValidExactly = (t : List ℕ) → (valid layout t ≡ true) ↔ ((d : Device) ×
 abbrev pub Narrow : Type 0
 Narrow = (d : Device) → wellFormed d ≡ true → allOf u32 (encode d) ≡ true
 
--- the table of no streams is all zero
+-- number n is bit n % 32 of word n / 32 of the words of the spent numbers
+abbrev pub SpentBits : Type 0
+SpentBits = (s : List Bool) → length s ≡ streamNumbers → (n : ℕ) → n < streamNumbers → numberBit n (spentWords s) ≡ isSpent n s
+
+-- the table of no streams and no spent number is all zero
 abbrev pub FreshIsZero : Type 0
 FreshIsZero = encode fresh ≡ zeros tableWords
 
@@ -57,3 +62,5 @@ pub record TablePromises : Type 0 where
   pub noTableRefusal : NoTableRefusal layout
   -- a step writes at most 1,056 bytes
   pub writesAtMost : WritesAtMost layout
+  -- after an accepted destruction of a stream no step of its number is accepted, and a report for it reaches nobody
+  pub spentForGood : SpentForGood layout

@@ -1,4 +1,5 @@
-// The device table (specs/Blocks): eight blocks of 512 words, one for each stream place, and the words behind them.
+// The device table (specs/Blocks): eight blocks of 512 words, one for each stream place, and behind them the words of the spent numbers and words
+// without use.
 ghost use mathlib.Core.Path.{_≡_};
 ghost use Rattle.model.specs.Tables.{freshen};
 ghost use Rattle.table.specs.Blocks.{layout};
@@ -7,11 +8,13 @@ use protocol::SHORT_TABLE;
 
 mod block;
 mod search;
+mod spent;
 
 pub use block::DRAIN;
 pub use block::FORMAT;
 pub use block::INPUTS;
 pub use block::LIVE;
+pub use block::NUMBER;
 pub use block::OUTPUTS;
 pub use block::QUEUES_END;
 pub use block::TICKET;
@@ -26,6 +29,8 @@ pub use block::queue_start;
 pub use block::set_drain;
 pub use search::find_stream;
 pub use search::find_vacant;
+pub use spent::is_spent;
+pub use spent::spend;
 
 // The stream places, the words of one, and those of all.
 pub const PLACES: usize = 8;
@@ -34,8 +39,11 @@ pub const PLACE_WORDS: usize = 512;
 
 pub const BLOCKS_WORDS: usize = 4096;
 
-// The used words of a table: the blocks, and the words behind them.
-pub const TABLE_WORDS: usize = 4096;
+// The words of the spent numbers stand behind the blocks, up to this one.
+pub const SPENT_END: usize = 4128;
+
+// The used words of a table: the blocks, the spent numbers, and words without use.
+pub const TABLE_WORDS: usize = 4160;
 
 // A drain that is pending, with its ticket, or none.
 pub enum DrainState {

@@ -3,9 +3,9 @@ use mathlib.Core.Path.{_≡_, refl, sym, _∙_}
 use mathlib.Core.Bool.{Bool, true, false, _&&_}
 use mathlib.Core.Option.{Option, none, some}
 use mathlib.Core.List.{List, [], _∷_, _++_}
-use Prim.Native.Nat.{ℕ, suc, _/_, _%_, _^_, _<_}
+use Prim.Native.Nat.{ℕ, _/_, _%_, _^_, _<_}
 use native.Mathlib.Omega.{arith}
-use lib.ListN.{length, getD}
+use lib.ListN.{length}
 use borrow.Author.Tests.{ltb-true, lt-ltb, eq-eqb}
 use Rattle.laws.specs.Lists.{allOf}
 use Rattle.laws.specs.Tests.{within}
@@ -20,12 +20,6 @@ use Rattle.queue.specs.Words.{slotWords, queueWords}
 use Rattle.table.specs.Blocks.{drainWords, headWords, placeWords}
 use Rattle.table.specs.Search.{hasAllSlots}
 use Rattle.table.proofs.Records.{sized-queue}
-
--- each word of a lent slice is below 2^32
-pub all-words : (l : List ℕ) → ((i : ℕ) → getD l i 0 < 2 ^ 32) → allOf u32 l ≡ true
-unfolding u32
-all-words [] h = refl
-all-words (x ∷ l) h = both (lt-ltb x (2 ^ 32) (h 0)) (all-words l (λ i. h (suc i)))
 
 -- both of two lists
 module _ (a b : List ℕ) (h : allOf u32 (a ++ b) ≡ true) where

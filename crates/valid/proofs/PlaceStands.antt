@@ -1,29 +1,31 @@
 -- The test whether words are those of the device that they stand for, block by block and part by part.
-use mathlib.Core.Path.{_≡_, refl, sym, ap, _∙_}
-use mathlib.Core.Bool.{Bool, true, false, _&&_, and-true, and-false}
+use mathlib.Core.Path.{_≡_, refl, sym, ap, ap₂, _∙_, subst}
+use mathlib.Core.Bool.{Bool, true, false, _&&_, and-true, and-false, and-assoc}
 use mathlib.Core.List.{List, [], _∷_, _++_}
-use Prim.Native.Nat.{ℕ, _*_, _<_}
+use Prim.Native.Nat.{ℕ, _+_, _*_, _^_, _<_}
 use native.Mathlib.Omega.{arith}
-use lib.ListN.{length, getD, take, drop, length-drop}
-use lib.Seq.{drop-drop, take-all, length-take-le, getD-take}
-use lib.Dec.{eqb, lit<}
-use borrow.Author.Tests.{eq-eqb, ne-eqb}
+use lib.ListN.{length, getD, take, drop, length-drop, List·getD-eq-default}
+use lib.Seq.{drop-drop, take-all, length-take-le, getD-take, getD-drop}
+use lib.Dec.{eqb, ltb, lit<}
+use borrow.Author.Tests.{eq-eqb, ne-eqb, ltb-true, ltb-false}
 use Rattle.laws.specs.Lists.{allOf, same, distinct}
 use Rattle.laws.specs.Tests.{allBelow}
 use Rattle.laws.specs.Parts.{part, zeros}
 use Rattle.laws.proofs.Tests.{all-ext, below-both}
-use Rattle.laws.proofs.Lists.{cond-elim, eqb-same, no-element}
+use Rattle.laws.proofs.Lists.{decide, cond-elim, eqb-same}
 use Rattle.laws.proofs.Same.{same-eq, same-true, same-cut}
 use Rattle.laws.proofs.Pieces.{same-pieces, read-length, read-at, all-places, all-read, pieces-again}
-use Rattle.model.specs.Numbers.{tableWords}
-use Rattle.model.specs.Device.{QueueType, input, output, Stream, Place, vacant, Device, queueOf}
-use Rattle.model.specs.WellFormed.{goodPlace, distinctPlaces, goodPlaces, wellFormed}
+use Rattle.model.specs.Numbers.{tableWords, streamPlaces, streamNumbers}
+use Rattle.model.specs.Device.{QueueType, input, output, Stream, Place, vacant, queueOf}
+use Rattle.model.specs.WellFormed.{goodPlace, distinctPlaces, goodPlaces, spentIn, wellFormed}
 use Rattle.model.specs.Tables.{valid}
 use Rattle.queue.specs.Words.{queueWords, decodeQueue}
 use Rattle.queue.proofs.Records.{queue-length, decoded-slots}
-use Rattle.table.specs.Blocks.{drainIn, headWords, placeWords, blocks, blocksSize, behind, encode, decodePlace, placesIn, decode, layout}
+use Rattle.table.specs.Spent.{spentSize, spentWords, decodeSpent}
+use Rattle.table.specs.Blocks.{placeSize, drainIn, headWords, placeWords, blocks, blocksSize, unusedSize, behind, encode, decodePlace, placesIn, decode, layout}
 use Rattle.table.specs.Search.{placeAt, hasAllSlots}
-use Rattle.valid.specs.Rules.{headStands, placeStands, placeValid, numbersFrom, blocksValid}
+use Rattle.valid.specs.Rules.{headStands, placeStands, placeSpent, placeValid, numbersFrom, blocksValid}
+use Rattle.table.proofs.Bits.{spent-length, all-words, spent-decoded, spent-again}
 use Rattle.table.proofs.Records.{head-length, queue-sized, place-length, blocks-length}
 use Rattle.valid.proofs.Elements.{places-numbers}
 
@@ -137,47 +139,84 @@ module _ (h : List ℕ) (long : length h ≡ 8) where
 
 -- The whole test of eight blocks: each is that of a place that keeps the rules, and no number stands twice
 
-turned : (stands good apart once : Bool) → (stands ≡ true → apart ≡ once) → (good && apart) && stands ≡ (stands && good) && once
-turned false g a o h = and-false (g && a)
-turned true true a o h = and-true a ∙ h refl
-turned true false a o h = refl
+turned : (good apart spent stands once : Bool) → (stands ≡ true → apart ≡ once) → ((good && apart) && spent) && stands ≡ (stands && (good && spent)) && once
+turned g a s false o h = and-false ((g && a) && s)
+turned false a s true o h = refl
+turned true true s true o h = and-true s ∙ sym (and-true s) ∙ ap (λ (x : Bool). s && x) (h refl)
+turned true false s true o h = sym (and-false s) ∙ ap (λ (x : Bool). s && x) (h refl)
 
 -- each place is read from its block
-good-test : (t : List ℕ) → allOf goodPlace (placesIn t) ≡ allBelow 8 (λ k. goodPlace (decodePlace (part (512 * k) 512 t)))
+each-test : (p : Place → Bool) (t : List ℕ) → allOf p (placesIn t) ≡ allBelow streamPlaces (λ k. p (decodePlace (part (placeSize * k) placeSize t)))
 unfolding placesIn
-good-test t =
-    all-places goodPlace vacant (placesIn t)
-    ∙ ap (λ (n : ℕ). allBelow n (λ k. goodPlace (placeAt k (placesIn t)))) (decode-eight t)
-    ∙ all-ext _ _ 8 (λ k h. ap goodPlace (read-at decodePlace 512 8 t k vacant h))
+each-test p t =
+    all-places p vacant (placesIn t)
+    ∙ ap (λ (n : ℕ). allBelow n (λ k. p (placeAt k (placesIn t)))) (decode-eight t)
+    ∙ all-ext _ _ streamPlaces (λ k h. ap p (read-at decodePlace placeSize streamPlaces t k vacant h))
 
-pub blocks-test : (t : List ℕ) → length t ≡ blocksSize → goodPlaces (placesIn t) && same t (blocks (placesIn t)) ≡ blocksValid t
+-- the rules of the places and those of their numbers, place by place
+rules-test : (t w : List ℕ) → (allOf goodPlace (placesIn t) && allOf (spentIn (decodeSpent w)) (placesIn t)) ≡ allBelow streamPlaces (λ k. goodPlace (decodePlace (part (placeSize * k) placeSize t)) && placeSpent w (part (placeSize * k) placeSize t))
+unfolding placeSpent
+rules-test t w = ap₂ (λ (x y : Bool). x && y) (each-test goodPlace t) (each-test (spentIn (decodeSpent w)) t) ∙ sym (below-both _ _ streamPlaces)
+
+blocks-test : (t w : List ℕ) → length t ≡ blocksSize → (goodPlaces (placesIn t) && allOf (spentIn (decodeSpent w)) (placesIn t)) && same t (blocks (placesIn t)) ≡ blocksValid w t
 unfolding placeValid blocks blocksValid
-blocks-test t long =
+blocks-test t w long =
     let stands : ℕ → Bool = λ k. placeStands (part (512 * k) 512 t) in
-    let good : ℕ → Bool = λ k. goodPlace (decodePlace (part (512 * k) 512 t)) in
-    rw (eq-eqb (length (placesIn t)) 8 (decode-eight t), stands-test t long, good-test t)
-    (turned (allBelow 8 stands) (allBelow 8 good) (distinctPlaces (placesIn t)) (distinct (numbersFrom 0 512 8 t))
+    let good : ℕ → Bool = λ k. goodPlace (decodePlace (part (512 * k) 512 t)) && placeSpent w (part (512 * k) 512 t) in
+    rw (eq-eqb (length (placesIn t)) 8 (decode-eight t), stands-test t long)
+    (turned (allOf goodPlace (placesIn t)) (distinctPlaces (placesIn t)) (allOf (spentIn (decodeSpent w)) (placesIn t)) (allBelow 8 stands) (distinct (numbersFrom 0 512 8 t))
     (λ e. ap distinct (sym (places-numbers t (placesIn t) (decode-sized t) (decode-eight t) (same-true _ _ (stands-test t long ∙ e)))))
+    ∙ ap (λ (b : Bool). (allBelow 8 stands && b) && distinct (numbersFrom 0 512 8 t)) (rules-test t w)
     ∙ ap (λ (b : Bool). b && distinct (numbersFrom 0 512 8 t)) (sym (below-both stands good 8)))
 
--- The used words: the blocks, and behind them no word
+-- The used words: the blocks, the spent numbers, and words without use
 
 blocks-length-of : (t : List ℕ) → length (blocks (placesIn t)) ≡ blocksSize
 blocks-length-of t = omega (arith, blocks-length (placesIn t) (decode-sized t), decode-eight t)
 
-behind-test : (t : List ℕ) (d : Device) → length t ≡ tableWords → same (drop blocksSize t) (behind d) ≡ true
-unfolding behind
-behind-test t d long = same-eq (drop blocksSize t) [] (no-element (drop blocksSize t) (length-drop blocksSize t ∙ (omega arith)))
+-- of the words behind the blocks those of the numbers may be any, and the others are zero
+module _ (t : List ℕ) (long : length t ≡ tableWords) where
+  abbrev numbers : List ℕ
+  numbers = part blocksSize spentSize t
 
-pub valid-test : (t : List ℕ) → length t ≡ tableWords → valid layout t ≡ blocksValid (take blocksSize t)
-unfolding valid wellFormed encode decode
-valid-test t long =
-    let b = take blocksSize t in
-    let d = decode t in
-    let cut : same t (blocks (placesIn b) ++ behind d) ≡ same b (blocks (placesIn b)) =
-    same-cut t (blocks (placesIn b)) (behind d) blocksSize (omega arith) (blocks-length-of b)
-    ∙ ap (λ (x : Bool). same b (blocks (placesIn b)) && x) (behind-test t d long)
-    ∙ and-true (same b (blocks (placesIn b))) in
-    ap (λ (w : List ℕ). wellFormed (decode w) && same w (encode (decode w))) (take-all tableWords t (omega arith))
-    ∙ ap (λ (x : Bool). goodPlaces (placesIn b) && x) cut
-    ∙ blocks-test b (length-take-le blocksSize t (omega arith))
+  abbrev unused : List ℕ
+  unused = part (blocksSize + spentSize) unusedSize t
+
+  numbers-size : length numbers ≡ spentSize
+  numbers-size = length-take-le spentSize (drop blocksSize t) (omega (arith, length-drop blocksSize t))
+
+  unused-size : length (drop (blocksSize + spentSize) t) ≡ unusedSize
+  unused-size = omega (arith, length-drop (blocksSize + spentSize) t)
+
+  pub unused-test : same unused (zeros (length unused)) ≡ same unused (zeros unusedSize)
+  unused-test = ap (λ (n : ℕ). same unused (zeros n)) (length-take-le unusedSize (drop (blocksSize + spentSize) t) (omega (arith, unused-size)))
+
+  module _ (narrow : (i : ℕ) → getD t i 0 < 2 ^ 32) where
+    numbers-narrow : (i : ℕ) → getD numbers i 0 < 2 ^ 32
+    numbers-narrow i =
+        decide (ltb i spentSize)
+        (λ h. subst (λ (v : ℕ). v < 2 ^ 32) (sym (getD-take spentSize (drop blocksSize t) i 0 (ltb-true i spentSize h) ∙ getD-drop blocksSize t i 0)) (narrow (blocksSize + i)))
+        (λ h. subst (λ (v : ℕ). v < 2 ^ 32) (sym (List·getD-eq-default numbers 0 {n = i} (omega (arith, ltb-false i spentSize h, numbers-size)))) (omega arith))
+
+    behind-test : same (drop blocksSize t) (spentWords (decodeSpent numbers) ++ zeros unusedSize) ≡ same unused (zeros unusedSize)
+    behind-test =
+        same-cut (drop blocksSize t) (spentWords (decodeSpent numbers)) (zeros unusedSize) spentSize (omega (arith, length-drop blocksSize t)) (spent-length (decodeSpent numbers))
+        ∙ ap₂ (λ (x : Bool) (w : List ℕ). x && same w (zeros unusedSize))
+        (same-eq numbers (spentWords (decodeSpent numbers)) (sym (spent-again numbers numbers-size (all-words numbers numbers-narrow))))
+        (drop-drop spentSize blocksSize t ∙ sym (take-all unusedSize (drop (blocksSize + spentSize) t) (omega (arith, unused-size))))
+
+    pub valid-test : valid layout t ≡ blocksValid numbers (take blocksSize t) && same unused (zeros unusedSize)
+    unfolding valid wellFormed encode decode behind
+    valid-test =
+        let b = take blocksSize t in
+        let ps = placesIn b in
+        let s = decodeSpent numbers in
+        let spent : Bool = allOf (spentIn s) ps in
+        let whole = blocks ps ++ (spentWords s ++ zeros unusedSize) in
+        let cut : same t whole ≡ same b (blocks ps) && same unused (zeros unusedSize) =
+        same-cut t (blocks ps) (spentWords s ++ zeros unusedSize) blocksSize (omega arith) (blocks-length-of b)
+        ∙ ap (λ (x : Bool). same b (blocks ps) && x) behind-test in
+        ap (λ (w : List ℕ). wellFormed (decode w) && same w (encode (decode w))) (take-all tableWords t (omega arith))
+        ∙ ap₂ (λ (x y : Bool). (goodPlaces ps && (x && spent)) && y) (eq-eqb (length s) streamNumbers (spent-decoded numbers numbers-size)) cut
+        ∙ sym (and-assoc (goodPlaces ps && spent) (same b (blocks ps)) (same unused (zeros unusedSize)))
+        ∙ ap (λ (x : Bool). x && same unused (zeros unusedSize)) (blocks-test b numbers (length-take-le blocksSize t (omega arith)))

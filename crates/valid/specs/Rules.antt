@@ -10,7 +10,8 @@ use Rattle.laws.specs.Lists.{same, numbersIn, standsIn, distinct}
 use Rattle.laws.specs.Tests.{allBelow}
 use Rattle.laws.specs.Parts.{part, readPieces}
 use Rattle.model.specs.Numbers.{streamPlaces}
-use Rattle.model.specs.WellFormed.{goodPlace}
+use Rattle.model.specs.WellFormed.{goodPlace, spentIn}
+use Rattle.table.specs.Spent.{decodeSpent}
 use Rattle.table.specs.Blocks.{placeSize, headWords, drainIn, placeWords, decodePlace}
 
 -- eight words are the head of the live stream that they stand for
@@ -21,9 +22,13 @@ headStands h = same h (headWords (getD h 1 0) (getD h 2 0) (drainIn (getD h 3 0)
 abbrev pub placeStands : List ℕ → Bool
 placeStands w = same w (placeWords (decodePlace w))
 
--- and the place keeps the rules
-unfoldable pub placeValid : List ℕ → Bool
-placeValid w = placeStands w && goodPlace (decodePlace w)
+-- by the words of the spent numbers the place is vacant, or the number of its stream is spent
+unfoldable pub placeSpent : List ℕ → List ℕ → Bool
+placeSpent spent w = spentIn (decodeSpent spent) (decodePlace w)
+
+-- words are those of a place that keeps the rules
+unfoldable pub placeValid : List ℕ → List ℕ → Bool
+placeValid spent w = placeStands w && (goodPlace (decodePlace w) && placeSpent spent w)
 
 -- the number in an element's words: none where the first is 0, otherwise the second
 abbrev pub wordsNumber : List ℕ → Option ℕ
@@ -34,8 +39,8 @@ unfoldable pub numbersFrom : ℕ → ℕ → ℕ → List ℕ → List ℕ
 numbersFrom i step count w = numbersIn wordsNumber (drop i (readPieces (λ x. x) step count w))
 
 -- the words of eight blocks are those of places that keep the rules, and no stream number stands twice
-unfoldable pub blocksValid : List ℕ → Bool
-blocksValid w = allBelow streamPlaces (λ k. placeValid (part (placeSize * k) placeSize w)) && distinct (numbersFrom 0 placeSize streamPlaces w)
+unfoldable pub blocksValid : List ℕ → List ℕ → Bool
+blocksValid spent w = allBelow streamPlaces (λ k. placeValid spent (part (placeSize * k) placeSize w)) && distinct (numbersFrom 0 placeSize streamPlaces w)
 
 -- Sixty-four marks. Each number leaves one, so that a number whose mark is missing is new.
 

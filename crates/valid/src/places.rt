@@ -5,13 +5,14 @@ ghost use Prim.Native.Nat.{_*_};
 ghost use lib.ListN.{length, getD};
 ghost use Rattle.laws.specs.Parts.{part};
 ghost use Rattle.laws.specs.Tests.{allBelow};
-ghost use Rattle.model.specs.Numbers.{tableWords};
+ghost use Rattle.model.specs.Numbers.{tableWords, streamPlaces};
 ghost use Rattle.model.specs.Device.{Place};
 ghost use Rattle.model.specs.WellFormed.{goodPlace};
 ghost use Rattle.model.specs.Tables as tables;
-ghost use Rattle.table.specs.Blocks.{placeWords, blocksSize, layout};
+ghost use Rattle.table.specs.Spent.{spentSize};
+ghost use Rattle.table.specs.Blocks.{placeSize, placeWords, blocksSize, layout};
 ghost use Rattle.table.specs.Search.{hasAllSlots};
-ghost use Rattle.valid.specs.Rules.{headStands, placeStands, placeValid, blocksValid};
+ghost use Rattle.valid.specs.Rules.{headStands, placeStands, placeSpent, placeValid, blocksValid};
 use crate::numbers::numbers_distinct;
 use crate::queues::all_zero;
 use crate::queues::queue_stands;
@@ -22,10 +23,13 @@ use table::DRAIN;
 use table::FORMAT;
 use table::INPUTS;
 use table::LIVE;
+use table::NUMBER;
 use table::OUTPUTS;
 use table::PLACE_WORDS;
 use table::PLACES;
 use table::QUEUES_END;
+use table::SPENT_END;
+use table::TABLE_WORDS;
 use table::TICKET;
 use table::UNUSED;
 
@@ -81,26 +85,40 @@ fn place_well(b: &[u32]) -> bool
     queue_well(&b[OUTPUTS..QUEUES_END])
 }
 
-// Whether 512 words are those of a place that keeps the rules.
-fn place_valid(b: &[u32]) -> bool
-    requires { ⌜ length (now b) ≡ 512 ⌝ }
-    ensures { λ r. ⌜ r ≡ placeValid (now (b .entry)) ⌝ }
+// Whether a block is vacant, or the number of its stream is spent.
+fn place_spent(b: &[u32], spent: &[u32]) -> bool
+    requires { ⌜ (length (now b) ≡ placeSize) × (length (now spent) ≡ spentSize) ⌝ }
+    ensures { λ r. ⌜ r ≡ placeSpent (now (spent .entry)) (now (b .entry)) ⌝ }
+{
+    if b[LIVE] != 1 {
+        return true;
+    }
+    table::is_spent(spent, b[NUMBER])
+}
+
+// Whether 512 words are those of a place that keeps the rules, the number of its stream being spent.
+fn place_valid(b: &[u32], spent: &[u32]) -> bool
+    requires { ⌜ (length (now b) ≡ placeSize) × (length (now spent) ≡ spentSize) ⌝ }
+    ensures { λ r. ⌜ r ≡ placeValid (now (spent .entry)) (now (b .entry)) ⌝ }
 {
     if !place_stands(b) {
         return false;
     }
-    place_well(b)
+    if !place_well(b) {
+        return false;
+    }
+    place_spent(b, spent)
 }
 
-// Whether the words of eight blocks are those of places that keep the rules.
-fn places_valid(t: &[u32]) -> bool
-    requires { ⌜ length (now t) ≡ blocksSize ⌝ }
-    ensures { λ r. ⌜ r ≡ allBelow 8 (λ k. placeValid (part (512 * k) 512 (now (t .entry)))) ⌝ }
+// Whether the words of eight blocks are those of such places.
+fn places_valid(t: &[u32], spent: &[u32]) -> bool
+    requires { ⌜ (length (now t) ≡ blocksSize) × (length (now spent) ≡ spentSize) ⌝ }
+    ensures { λ r. ⌜ r ≡ allBelow streamPlaces (λ k. placeValid (now (spent .entry)) (part (placeSize * k) placeSize (now (t .entry)))) ⌝ }
 {
     let mut k = 0;
     while k < PLACES {
         let at = PLACE_WORDS * k;
-        if !place_valid(&t[at..at + PLACE_WORDS]) {
+        if !place_valid(&t[at..at + PLACE_WORDS], spent) {
             return false;
         }
         k += 1;
@@ -108,21 +126,24 @@ fn places_valid(t: &[u32]) -> bool
     true
 }
 
-// Whether the words of eight blocks are those of places that keep the rules, with no stream number twice.
-fn blocks_valid(b: &[u32]) -> bool
-    requires { ⌜ length (now b) ≡ blocksSize ⌝ }
-    ensures { λ r. ⌜ r ≡ blocksValid (now (b .entry)) ⌝ }
+// Whether the words of eight blocks are those of such places, with no stream number twice.
+fn blocks_valid(b: &[u32], spent: &[u32]) -> bool
+    requires { ⌜ (length (now b) ≡ blocksSize) × (length (now spent) ≡ spentSize) ⌝ }
+    ensures { λ r. ⌜ r ≡ blocksValid (now (spent .entry)) (now (b .entry)) ⌝ }
 {
-    if !places_valid(b) {
+    if !places_valid(b, spent) {
         return false;
     }
     numbers_distinct(b, PLACE_WORDS, PLACES)
 }
 
-// Whether the used words of a table are valid.
+// Whether the used words of a table are valid: its blocks are, and the words without use behind the spent numbers are zero.
 pub fn valid(t: &[u32]) -> bool
     requires { ⌜ length (now t) ≡ tableWords ⌝ }
     ensures { λ r. ⌜ r ≡ tables.valid layout (now (t .entry)) ⌝ }
 {
-    blocks_valid(&t[0..BLOCKS_WORDS])
+    if !blocks_valid(&t[0..BLOCKS_WORDS], &t[BLOCKS_WORDS..SPENT_END]) {
+        return false;
+    }
+    all_zero(&t[SPENT_END..TABLE_WORDS])
 }

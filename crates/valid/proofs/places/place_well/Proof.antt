@@ -17,7 +17,8 @@ use Rattle.table.specs.Blocks.{placeWords}
 use Rattle.table.specs.Search.{hasAllSlots}
 use Rattle.table.proofs.Records.{queue-read}
 use Rattle.table.proofs.Heads.{vacant-word, live-word, format-word}
-use Rattle.valid.proofs.Good.{all-words, queueRules, wide-place}
+use Rattle.table.proofs.Bits.{all-words}
+use Rattle.valid.proofs.Good.{queueRules, wide-place}
 use Rattle.valid.proofs.places.place_well.Statement.{statement}
 use Rattle.valid.proofs.places.place_well.Tie as tie
 

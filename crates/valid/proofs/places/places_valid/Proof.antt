@@ -14,13 +14,15 @@ use Rattle.valid.proofs.places.places_valid.Statement.{statement}
 use Rattle.valid.proofs.places.places_valid.Tie as tie
 
 abbrev Inv-loop : tie.InvT-loop
-Inv-loop t k₀ k = (k ≤ 8) × (allBelow k (λ j. placeValid (part (512 * j) 512 t)) ≡ true)
+Inv-loop t spent k₀ k = (k ≤ 8) × (allBelow k (λ j. placeValid spent (part (512 * j) 512 t)) ≡ true)
 
 abbrev μ-loop : tie.MeasureT-loop
-μ-loop t k₀ k = 8 - k
+μ-loop t spent k₀ k = 8 - k
 
 loop-holds : tie.Need-loop-holds Inv-loop μ-loop
-loop-holds c = (search needs, all-none (λ j. placeValid (part (512 * j) 512 (c .before .args .t .now))))
+loop-holds c =
+    let start = c .before .before in
+    (search needs, all-none (λ j. placeValid (start .args .spent .now) (part (512 * j) 512 (start .args .t .now))))
 
 mul-at : tie.Need-mul-at Inv-loop μ-loop
 mul-at c = search needs
@@ -45,10 +47,10 @@ place-valid-requires c κs = search needs
 
 returns : tie.Need-returns Inv-loop μ-loop
 returns c =
-    let s = c .before .before .before .before .before .before in
-    let l = c .before .before .before .before .loop in
-    let test = c .before .place-valid .ensures ∙ ap (λ (n : ℕ). placeValid (part (512 * l .k) n (s .args .t .now))) (add-sub-cancel-left (512 * l .k) 512) in
-    sym (all-fails (λ j. placeValid (part (512 * j) 512 (s .args .t .now))) 8 (l .k) (search needs) (sym test ∙ not-true _ (c .if1 .taken)))
+    let after-place-valid = c .before in let at-loop = after-place-valid .before .before .before in let start = at-loop .before .before .before in
+    let l = at-loop .loop in
+    let test = after-place-valid .place-valid .ensures ∙ ap (λ (n : ℕ). placeValid (start .args .spent .now) (part (512 * l .k) n (start .args .t .now))) (add-sub-cancel-left (512 * l .k) 512) in
+    sym (all-fails (λ j. placeValid (start .args .spent .now) (part (512 * j) 512 (start .args .t .now))) 8 (l .k) (search needs) (sym test ∙ not-true _ (c .if1 .taken)))
 
 add-k : tie.Need-add-k Inv-loop μ-loop
 add-k c = search needs
@@ -58,10 +60,10 @@ loop-less c = search needs
 
 loop-again : tie.Need-loop-again Inv-loop μ-loop
 loop-again c =
-    let s = c .before .before .before .before .before .before in
-    let l = c .before .before .before .before .loop in
-    let test = c .before .place-valid .ensures ∙ ap (λ (n : ℕ). placeValid (part (512 * l .k) n (s .args .t .now))) (add-sub-cancel-left (512 * l .k) 512) in
-    (search needs, all-more (λ j. placeValid (part (512 * j) 512 (s .args .t .now))) (l .k) (l .inv .1) (sym test ∙ not-false _ (c .if1 .left)))
+    let after-place-valid = c .before in let at-loop = after-place-valid .before .before .before in let start = at-loop .before .before .before in
+    let l = at-loop .loop in
+    let test = after-place-valid .place-valid .ensures ∙ ap (λ (n : ℕ). placeValid (start .args .spent .now) (part (512 * l .k) n (start .args .t .now))) (add-sub-cancel-left (512 * l .k) 512) in
+    (search needs, all-more (λ j. placeValid (start .args .spent .now) (part (512 * j) 512 (start .args .t .now))) (l .k) (l .inv .1) (sym test ∙ not-false _ (c .if1 .left)))
 
 returns-2 : tie.Need-returns-2 Inv-loop μ-loop
 returns-2 c =

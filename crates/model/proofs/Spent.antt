@@ -1,0 +1,85 @@
+-- Laws of the spent numbers.
+use Prim.Native.Nat.{ℕ, zero, suc, _<_, _≤_}
+use native.Mathlib.Omega.{arith}
+use mathlib.Core.Path.{_≡_, refl, sym, ap, _∙_, subst}
+use mathlib.Core.Bool.{Bool, true, false}
+use mathlib.Core.Option.{Option, none, some}
+use mathlib.Core.List.{List, [], _∷_}
+use lib.ListN.{length, length-set, length-replicate, replicate, set, getD, getD-replicate, List·getD-eq-default}
+use lib.Seq.{getD-set-same, getD-set-other}
+use lib.Dec.{eqb, ltb}
+use borrow.Author.Tests.{eqb-true, ltb-true, ltb-false}
+use Rattle.laws.proofs.Tests.{never}
+use Rattle.laws.proofs.Lists.{decide, eqb-same}
+use Rattle.model.specs.Numbers.{streamNumbers}
+use Rattle.model.specs.Device.{Stream, isSpent, spend, spentAfter}
+
+-- a number that is not kept is not spent, and so a number that is spent is one of those kept
+pub none-beyond : (n : ℕ) (s : List Bool) → length s ≤ n → isSpent n s ≡ false
+unfolding isSpent
+none-beyond n s h = List·getD-eq-default s false h
+
+spent-below : (n : ℕ) (s : List Bool) → isSpent n s ≡ true → n < length s
+spent-below n s e = decide (ltb n (length s)) (λ h. ltb-true n (length s) h) (λ h. never (sym e ∙ none-beyond n s (ltb-false n (length s) h)))
+
+module _ (n : ℕ) (s : List Bool) where
+  pub spend-length : length (spend n s) ≡ length s
+  unfolding spend
+  spend-length = length-set s n true
+
+  -- it is spent, and of any other number nothing changes
+  pub spend-same : n < length s → isSpent n (spend n s) ≡ true
+  unfolding isSpent spend
+  spend-same h = getD-set-same s n true false h
+
+  pub spend-other : (m : ℕ) → eqb n m ≡ false → isSpent m (spend n s) ≡ isSpent m s
+  unfolding isSpent spend
+  spend-other m h = getD-set-other s n m true false (λ e. never (sym (eqb-same n) ∙ ap (eqb n) (sym e) ∙ h))
+
+  -- what is spent stays spent
+  pub spend-keeps : (m : ℕ) → isSpent m s ≡ true → isSpent m (spend n s) ≡ true
+  spend-keeps m e =
+      decide (eqb n m)
+      (λ h. subst (λ (x : ℕ). isSpent x (spend n s) ≡ true) (eqb-true n m h) (spend-same (subst (λ (x : ℕ). x < length s) (sym (eqb-true n m h)) (spent-below m s e))))
+      (λ h. spend-other m h ∙ e)
+
+  -- spent twice is spent once; a number that is not kept cannot be
+  pub spend-again : spend n (spend n s) ≡ spend n s
+  unfolding spend
+  spend-again = of n s
+    where
+      of : (i : ℕ) (l : List Bool) → set (set l i true) i true ≡ set l i true
+      of i [] = refl
+      of zero (x ∷ l) = refl
+      of (suc i) (x ∷ l) = ap (λ r. x ∷ r) (of i l)
+
+  pub spend-beyond : length s ≤ n → spend n s ≡ s
+  unfolding spend
+  spend-beyond h = of n s h
+    where
+      of : (i : ℕ) (l : List Bool) → length l ≤ i → set l i true ≡ l
+      of i [] h = refl
+      of zero (x ∷ l) h = absurd (omega (arith, h))
+      of (suc i) (x ∷ l) h = ap (λ r. x ∷ r) (of i l (omega (arith, h)))
+
+  pub spend-spent : isSpent n s ≡ true → spend n s ≡ s
+  unfolding isSpent spend
+  spend-spent h = of n s h
+    where
+      of : (i : ℕ) (l : List Bool) → getD l i false ≡ true → set l i true ≡ l
+      of i [] h = refl
+      of zero (x ∷ l) h = ap (λ (y : Bool). y ∷ l) (sym h)
+      of (suc i) (x ∷ l) h = ap (λ r. x ∷ r) (of i l h)
+
+-- no number is spent at first
+pub none-spent : (n : ℕ) → isSpent n (replicate streamNumbers false) ≡ false
+unfolding isSpent
+none-spent n =
+    decide (ltb n streamNumbers)
+    (λ h. getD-replicate {A = Bool} streamNumbers n false false (ltb-true n streamNumbers h))
+    (λ h. none-beyond n (replicate streamNumbers false) (omega (arith, ltb-false n streamNumbers h, length-replicate {A = Bool} streamNumbers false)))
+
+-- a step that leaves the record as it was spends nothing
+pub spent-self : (n : ℕ) (r : Option Stream) (s : List Bool) → spentAfter n r r s ≡ s
+spent-self n none s = refl
+spent-self n (some b) s = refl
