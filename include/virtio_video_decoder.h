@@ -79,6 +79,7 @@ enum virtio_video_cmd_type {
 	/* Responses: errors, a header alone */
 	VIRTIO_VIDEO_RESP_ERR_INVALID_OPERATION = 0x0300,
 	VIRTIO_VIDEO_RESP_ERR_OUT_OF_MEMORY = 0x0301,
+	/* no such stream; for a creation: a number that is spent, or above 1,023 */
 	VIRTIO_VIDEO_RESP_ERR_INVALID_STREAM_ID = 0x0302,
 	VIRTIO_VIDEO_RESP_ERR_INVALID_RESOURCE_ID = 0x0303,
 	VIRTIO_VIDEO_RESP_ERR_INVALID_PARAMETER = 0x0304,
@@ -123,7 +124,12 @@ enum virtio_video_mem_type {
 	VIRTIO_VIDEO_MEM_TYPE_GUEST_PAGES = 0,	/* no other is taken */
 };
 
-/* VIRTIO_VIDEO_CMD_STREAM_CREATE, answered by a header */
+/*
+ * VIRTIO_VIDEO_CMD_STREAM_CREATE, answered by a header. The stream's number is below
+ * VIRTIO_VIDEO_STREAM_NUMBERS. Success spends it: until the table is made fresh no other
+ * stream gets that number, also when this one is destroyed. A creation that fails spends
+ * nothing.
+ */
 struct virtio_video_stream_create {
 	struct virtio_video_cmd_hdr hdr;
 	/* both VIRTIO_VIDEO_MEM_TYPE_GUEST_PAGES */
@@ -292,12 +298,13 @@ enum virtio_video_control_type {
  */
 
 /* Limits of a device */
-#define VIRTIO_VIDEO_MAX_STREAMS	8
+#define VIRTIO_VIDEO_MAX_STREAMS	8	/* live at a time */
+#define VIRTIO_VIDEO_STREAM_NUMBERS	1024	/* 0 to 1,023, each for one stream */
 #define VIRTIO_VIDEO_MAX_RESOURCES	16	/* in each queue of a stream */
 #define VIRTIO_VIDEO_MAX_ENTRIES	256	/* of a resource */
 
 /* Words of a device table, 4 bytes each */
-#define VIRTIO_VIDEO_TABLE_WORDS	4096
+#define VIRTIO_VIDEO_TABLE_WORDS	4160
 
 /*
  * Bytes of room that a step asks for, which is the most that one writes: 32 answers to
@@ -367,7 +374,10 @@ struct virtio_video_answer {
  * call. Calls on different tables may run at the same time.
  */
 
-/* Makes the table that of a device without streams. Gives 0 or REFUSAL_SHORT_TABLE. */
+/*
+ * Makes the table that of a device without streams, on which no number is spent. Gives 0 or
+ * REFUSAL_SHORT_TABLE.
+ */
 uint32_t virtio_video_fresh(uint32_t *table, size_t words);
 
 /*

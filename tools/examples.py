@@ -318,6 +318,21 @@ def edges():
     log.command("digits 0, 9, A and F", destroy(9), error(0x0302), ticket=0x90AF09FA, change=str.upper)
     for byte in b"/:@G`g":
         log.drained(f"byte {byte} for a digit", 6, refused(7), change=lambda digits: digits[:-1] + chr(byte))
+
+    # Stream 5 is destroyed, so that one place is free.
+    spent = error(0x0302)
+    log.command("create stream 1024", create(1024), spent)
+    log.command("create stream 2^32 - 1", create(2**32 - 1), spent)
+    log.command("create stream 1023", create(1023), ok)
+    log.command("create stream 1023 again", create(1023), spent)
+    log.command("create stream 9, still a ninth", create(9), full)
+    log.command("destroy stream 1023", destroy(1023), ok)
+    log.command("create stream 1023 again, which is destroyed", create(1023), spent)
+    log.command("create stream 9, now that a place is free", create(9), ok)
+    log.command("create stream 9 again", create(9), spent)
+    log.command("destroy stream 9", destroy(9), ok)
+    log.command("create stream 0", create(0), ok)
+    log.command("create stream 0 again", create(0), spent)
     return log
 
 
@@ -343,11 +358,11 @@ def orders():
     log.command("unknown type, stream not live", header(0x010D, dead), operation)
     log.command("0x0100, stream not live", header(0x0100, dead), operation)
 
-    log.command("create: 87 bytes, stream live", create(1)[:87], bad)
+    log.command("create: 87 bytes, number spent, live", create(1)[:87], bad)
     log.command("create: 87 bytes, no place", create(dead)[:87], bad)
-    log.command("create: stream live, bad format, no place", create(1, format=0x1006), stream)
-    log.command("create: stream live, tag without NUL, no place", create(1, b"\xff" * 64), stream)
-    log.command("create: stream live, no place", create(1), stream)
+    log.command("create: number spent, live, bad format, no place", create(1, format=0x1006), stream)
+    log.command("create: number spent, live, tag without NUL, no place", create(1, b"\xff" * 64), stream)
+    log.command("create: number spent, live, no place", create(1), stream)
     log.command("create: input memory type 1, no place", create(dead, memory=(1, 0)), bad)
     log.command("create: output memory type 1, no place", create(dead, memory=(0, 1)), bad)
     log.command("create: bad format, no place", create(dead, format=0x0FFF), bad)
@@ -449,6 +464,30 @@ def orders():
     log.command("get: nothing above changed stream 1", get_params(1, OUTPUT), parameters(OUTPUT, NV12, 640, 480))
     log.command("destroy stream 1", destroy(1), buffer(first, 1, 1), buffer(picture, 2, 1), drained(kept), ok)
     log.command("clear the input of stream 2", clear(2, INPUT), drained(draining), ok)
+
+    # Stream 1 is destroyed, and one place is free, which 99 takes.
+    log.command(f"create stream {dead}: what was refused above spent nothing", create(dead), ok)
+    log.command("create: 87 bytes, number spent, not live", create(1)[:87], bad)
+    log.command("create: 89 bytes, number spent, not live", create(1) + b"\0", bad)
+    faults = {
+        "input memory type 1, ": {"memory": (1, 0)},
+        "output memory type 1, ": {"memory": (0, 1)},
+        "bad format, ": {"format": 0x0FFF},
+        "tag without NUL, ": {"tag": b"a" * 64},
+        "tag not UTF-8, ": {"tag": b"\x80"},
+        "": {},
+    }
+    for fault, fields in faults.items():
+        log.command(f"create: number spent, not live, {fault}no place", create(1, **fields), stream)
+    log.command("create: 87 bytes, number 1024", create(1024)[:87], bad)
+    log.command("create: 89 bytes, number 1024", create(1024) + b"\0", bad)
+    for fault, fields in faults.items():
+        log.command(f"create: number 1024, {fault}no place", create(1024, **fields), stream)
+    log.command("create: number 1023, no place", create(1023), memory)
+    log.finish("finish: flags 4, stream destroyed", 1, INPUT, 1, 4, 0, refused(6))
+    log.finish("finish: stream destroyed", 1, INPUT, 1, 0, 0, refused(5))
+    log.finish("finish: stream destroyed, EOS", 1, OUTPUT, 1, 2, 0, refused(5))
+    log.drained("drained: stream destroyed", 1, refused(5))
     return log
 
 
@@ -481,17 +520,48 @@ def streams():
     log.command("get the output of stream 10", get_params(10, OUTPUT), error(0x0302))
     log.command("get the output of stream 11", get_params(11, OUTPUT), parameters(OUTPUT, NV12, 320, 240))
     log.command("create stream 13", create(13, b"thirteen", format=0x1001), ok)
-    log.command("create stream 10 again, for VP8", create(10, b"ten", format=0x1004), ok)
-    text = "get its input: nothing is left of the old one"
-    log.command(text, get_params(10, INPUT), parameters(INPUT, 0x1004, 640, 480))
-    log.command("queue input 1 of the new stream 10", queue(10, INPUT, 1), error(0x0303))
-    log.command("create input 1 of stream 10", resource(10, INPUT, 1), ok)
-    new = log.command("queue input 1 of stream 10, timestamp 400", queue(10, INPUT, 1, 400))
+    spent = error(0x0302)
+    log.command("create stream 10 again, for VP8", create(10, b"ten", format=0x1004), spent)
+    log.command("get the input of stream 10", get_params(10, INPUT), spent)
+    log.command("queue input 1 of stream 10", queue(10, INPUT, 1), spent)
+    log.command("create input 1 of stream 10", resource(10, INPUT, 1), spent)
+    log.command("queue input 1 of stream 10, timestamp 400", queue(10, INPUT, 1, 400), spent)
     log.command("destroy stream 12", destroy(12), ok)
     log.command("clear the input of stream 11", clear(11, INPUT), buffer(again, 201, 1), ok)
-    log.finish("finish input 1 of stream 10", 10, INPUT, 1, 0, 0, buffer(new, 400))
-    for stream in 11, 13, 10:
-        log.command("destroy streams 11, 13 and 10", destroy(stream), ok)
+    log.finish("finish input 1 of stream 10, too late", 10, INPUT, 1, 0, 0, refused(5))
+    for stream in 11, 13:
+        log.command("destroy streams 11 and 13", destroy(stream), ok)
+    log.command("destroy stream 10", destroy(10), spent)
+
+    log.command("create stream 14, for VP8, where stream 10 stood", create(14, b"fourteen", format=0x1004), ok)
+    text = "get its input: nothing is left of the old one"
+    log.command(text, get_params(14, INPUT), parameters(INPUT, 0x1004, 640, 480))
+    log.command("queue input 1 of stream 14", queue(14, INPUT, 1), error(0x0303))
+    log.command("create input 1 of stream 14", resource(14, INPUT, 1), ok)
+    new = log.command("queue input 1 of stream 14, timestamp 400", queue(14, INPUT, 1, 400))
+    draining = log.command("drain stream 14", drain(14))
+    log.finish("finish input 1 of stream 10, too late", 10, INPUT, 1, 0, 0, refused(5))
+    log.finish("the same with flags 4", 10, INPUT, 1, 4, 0, refused(6))
+    log.drained("stream 10 drained, too late", 10, refused(5))
+    log.finish("finish input 1 of stream 14", 14, INPUT, 1, 0, 0, buffer(new, 400))
+    log.command("create stream 10 once more, tag without NUL", create(10, b"a" * 64), spent)
+    log.command("create stream 10 once more, 87 bytes", create(10)[:87], error(0x0304))
+    log.command("create stream 15, tag without NUL", create(15, b"a" * 64), error(0x0304))
+    log.command("create stream 15: that spent nothing", create(15), ok)
+    log.command("destroy stream 14", destroy(14), drained(draining), ok)
+    log.drained("stream 14 drained, too late", 14, refused(5))
+    for stream in 14, 13, 12, 11:
+        log.command("create streams 14 down to 11 again", create(stream), spent)
+    log.command("destroy stream 15", destroy(15), ok)
+
+    log.command("create stream 65552, which is 16 in its low half", create(0x10010), spent)
+    log.command("create stream 16", create(16), ok)
+    draining = log.command("drain stream 16", drain(16))
+    log.drained("stream 10 drained, too late", 10, refused(5))
+    log.drained("stream 16 drained", 16, drained(draining))
+    log.command("create stream 48, which is 32 further on", create(48), ok)
+    for stream in 16, 48:
+        log.command("destroy streams 16 and 48", destroy(stream), ok)
     return log
 
 

@@ -15,6 +15,9 @@
 #define INPUT	VIRTIO_VIDEO_QUEUE_TYPE_INPUT
 #define OUTPUT	VIRTIO_VIDEO_QUEUE_TYPE_OUTPUT
 
+/* The words of the spent numbers begin here: number n is bit n % 32 of word SPENT + n / 32 */
+#define SPENT	4096
+
 /* What stands in the room where the core has not written */
 #define UNTOUCHED 0xa5
 
@@ -207,17 +210,24 @@ static struct virtio_video_cmd_hdr header(uint32_t type)
 	return hdr;
 }
 
-static void create(uint32_t ticket, const char *what, const char *tag, const char *hex)
+static void create_stream(uint32_t ticket, const char *what, uint32_t stream, const char *tag,
+			  const char *hex)
 {
 	struct virtio_video_stream_create c;
 
 	memset(&c, 0, sizeof(c));
-	c.hdr = header(VIRTIO_VIDEO_CMD_STREAM_CREATE);
+	c.hdr.type = VIRTIO_VIDEO_CMD_STREAM_CREATE;
+	c.hdr.stream_id = stream;
 	c.in_mem_type = VIRTIO_VIDEO_MEM_TYPE_GUEST_PAGES;
 	c.out_mem_type = VIRTIO_VIDEO_MEM_TYPE_GUEST_PAGES;
 	c.coded_format = VIRTIO_VIDEO_FORMAT_H264;
 	memcpy(c.tag, tag, strlen(tag));
 	command(ticket, what, &c, sizeof(c), 0, hex);
+}
+
+static void create(uint32_t ticket, const char *what, const char *tag, const char *hex)
+{
+	create_stream(ticket, what, STREAM, tag, hex);
 }
 
 /* A resource of two planes, the first in one page and the second in another */
@@ -397,28 +407,55 @@ static void stopping(void)
 	      "21000000 08000000 02030000 07000000");
 }
 
+/* What comes of a number once its stream is gone: no other stream gets it. */
+static void spent_numbers(void)
+{
+	create(34, "create the stream again", "lobby", "22000000 08000000 02030000 07000000");
+	create(35, "create it with a tag that is not UTF-8", "\xff",
+	       "23000000 08000000 02030000 07000000");
+	/* so nothing that comes late can meet another stream */
+	finish("output 5 is done, too late", OUTPUT, 5, 0, 90,
+	       VIRTIO_VIDEO_REFUSAL_UNEXPECTED_REPORT, "");
+	drained(VIRTIO_VIDEO_REFUSAL_UNEXPECTED_REPORT, "");
+	create_stream(36, "create stream 1,024", VIRTIO_VIDEO_STREAM_NUMBERS, "",
+		      "24000000 08000000 02030000 00040000");
+	create_stream(37, "create stream 1,023", VIRTIO_VIDEO_STREAM_NUMBERS - 1, "",
+		      "25000000 08000000 00020000 ff030000");
+	create_stream(38, "create it again", VIRTIO_VIDEO_STREAM_NUMBERS - 1, "",
+		      "26000000 08000000 02030000 ff030000");
+	if (table[SPENT] != UINT32_C(0x80) || table[SPENT + 31] != UINT32_C(0x80000000))
+		wrong("the spent numbers in the table");
+
+	printf("host: makes the table fresh, as at a reset of the device\n");
+	if (virtio_video_fresh(table, VIRTIO_VIDEO_TABLE_WORDS) != VIRTIO_VIDEO_REFUSAL_NONE)
+		wrong("a table not made fresh");
+	create(39, "create stream 7", "lobby", "27000000 08000000 00020000 07000000");
+	plain(40, "destroy it", VIRTIO_VIDEO_CMD_STREAM_DESTROY,
+	      "28000000 08000000 00020000 07000000");
+}
+
 /* The host's own slips, and a guest that sends half a header */
 static void refusals(void)
 {
 	struct virtio_video_cmd_hdr c = header(VIRTIO_VIDEO_CMD_STREAM_DRAIN);
 	const uint8_t *frame = (const uint8_t *)&c;
 
-	command(34, "a command of 7 bytes", &c, 7, VIRTIO_VIDEO_REFUSAL_SHORT_COMMAND, "");
-	command(35, "a command of no bytes", NULL, 0, VIRTIO_VIDEO_REFUSAL_SHORT_COMMAND, "");
+	command(41, "a command of 7 bytes", &c, 7, VIRTIO_VIDEO_REFUSAL_SHORT_COMMAND, "");
+	command(42, "a command of no bytes", NULL, 0, VIRTIO_VIDEO_REFUSAL_SHORT_COMMAND, "");
 	printf("host: lends nothing\n");
-	expect(virtio_video_command(NULL, 0, 36, NULL, 0, NULL, 0),
+	expect(virtio_video_command(NULL, 0, 43, NULL, 0, NULL, 0),
 	       VIRTIO_VIDEO_REFUSAL_SHORT_TABLE, "");
 	printf("host: lends a short table\n");
-	expect(virtio_video_command(table, VIRTIO_VIDEO_TABLE_WORDS - 1, 37, frame, sizeof(c),
+	expect(virtio_video_command(table, VIRTIO_VIDEO_TABLE_WORDS - 1, 44, frame, sizeof(c),
 				    room, sizeof(room)),
 	       VIRTIO_VIDEO_REFUSAL_SHORT_TABLE, "");
 	printf("host: lends a short room\n");
-	expect(virtio_video_command(table, VIRTIO_VIDEO_TABLE_WORDS, 38, frame, sizeof(c), room,
+	expect(virtio_video_command(table, VIRTIO_VIDEO_TABLE_WORDS, 45, frame, sizeof(c), room,
 				    sizeof(room) - 1),
 	       VIRTIO_VIDEO_REFUSAL_SHORT_ROOM, "");
 	printf("host: lends a table with a word changed\n");
 	table[VIRTIO_VIDEO_TABLE_WORDS - 1] = 1;
-	expect(virtio_video_command(table, VIRTIO_VIDEO_TABLE_WORDS, 39, frame, sizeof(c), room,
+	expect(virtio_video_command(table, VIRTIO_VIDEO_TABLE_WORDS, 46, frame, sizeof(c), room,
 				    sizeof(room)),
 	       VIRTIO_VIDEO_REFUSAL_INVALID_TABLE, "");
 	table[VIRTIO_VIDEO_TABLE_WORDS - 1] = 0;
@@ -515,11 +552,14 @@ int main(void)
 	decoding();
 	draining();
 	stopping();
+	spent_numbers();
 	refusals();
 	playing();
 
+	/* nothing is left of the streams but that number 7 is spent */
+	table[SPENT] -= UINT32_C(1) << STREAM;
 	if (memcmp(table, empty, sizeof(table)) != 0)
-		wrong("the table at the end is not fresh");
+		wrong("the table at the end");
 	printf(failed ? "Some step went wrong.\n" : "Every step went as expected.\n");
 	return failed;
 }

@@ -17,6 +17,10 @@
 
 #define WORDS	VIRTIO_VIDEO_TABLE_WORDS
 #define ROOM	VIRTIO_VIDEO_ANSWER_ROOM
+#define NUMBERS	VIRTIO_VIDEO_STREAM_NUMBERS
+
+/* The words of the spent numbers begin here: number n is bit n % 32 of word SPENT + n / 32 */
+#define SPENT	4096
 
 /* Longest pieces that are lent */
 #define MOST_WORDS	(WORDS + 64)
@@ -209,6 +213,27 @@ static unsigned answers(uint32_t written, int *error)
 	return count;
 }
 
+/*
+ * A creation that succeeds spends its number, which was not spent before. Nothing else changes
+ * a word behind the streams.
+ */
+static void check_spent(const struct step *s, const uint32_t *before, int accepted)
+{
+	uint32_t behind[WORDS - SPENT], type, number;
+
+	memcpy(behind, before + SPENT, sizeof(behind));
+	if (s->kind == COMMAND && accepted) {
+		memcpy(&type, s->frame, 4);
+		memcpy(&number, s->frame + 4, 4);
+		if (type == VIRTIO_VIDEO_CMD_STREAM_CREATE) {
+			CHECK(number < NUMBERS);
+			CHECK((behind[number / 32] >> number % 32 & 1) == 0);
+			behind[number / 32] |= UINT32_C(1) << number % 32;
+		}
+	}
+	CHECK(memcmp(table + SPENT, behind, sizeof(behind)) == 0);
+}
+
 static void step(const struct step *s)
 {
 	static uint32_t table_before[MOST_WORDS];
@@ -261,6 +286,8 @@ static void step(const struct step *s)
 		CHECK(memcmp(table, table_before, words * 4) == 0);
 	else
 		CHECK(memcmp(table + WORDS, table_before + WORDS, (words - WORDS) * 4) == 0);
+	if (words >= WORDS)
+		check_spent(s, table_before, !outcome.refusal && !error);
 
 	/* what kind of step, its refusal or first response, and how many answers */
 	what = s->kind * 16 + (s->kind == COMMAND && s->frame_len ? s->frame[0] & 15 : 0);
@@ -271,6 +298,17 @@ static void step(const struct step *s)
 /* --------------------------------------------------------------------------
  * Steps out of the input
  */
+
+/*
+ * Steps are for the 16 stream numbers from this one on, so that many of them meet the same
+ * stream. It moves on: else every number would soon be spent.
+ */
+static uint32_t first_number;
+
+static uint32_t stream_number(uint32_t bits)
+{
+	return first_number + (bits & 15);
+}
 
 static void put32(uint8_t *frame, size_t at, uint32_t value)
 {
@@ -287,7 +325,7 @@ static size_t shape(uint8_t *frame, uint32_t type)
 
 	memset(frame, 0, MOST_FRAME);
 	put32(frame, 0, type);
-	put32(frame, 4, numbers & 15);
+	put32(frame, 4, stream_number(numbers));
 	if (length > 8)
 		put32(frame, 8, queue_type);
 	switch (type) {
@@ -361,9 +399,28 @@ static void burst(uint8_t *frame, uint8_t op)
 	size_t length = shape(frame, type);
 
 	for (i = 0; i < count; i++) {
-		put32(frame, type == VIRTIO_VIDEO_CMD_STREAM_CREATE ? 4 : 12, i);
+		if (type == VIRTIO_VIDEO_CMD_STREAM_CREATE)
+			put32(frame, 4, first_number + i);
+		else
+			put32(frame, 12, i);
 		command(i, frame, length);
 	}
+}
+
+/* Makes the table that of a device without streams, or leaves it alone if it is short. */
+static void make_fresh(void)
+{
+	size_t i;
+
+	if (words < WORDS) {
+		CHECK(virtio_video_fresh(table, words) == VIRTIO_VIDEO_REFUSAL_SHORT_TABLE);
+		return;
+	}
+	CHECK(virtio_video_fresh(table, words) == VIRTIO_VIDEO_REFUSAL_NONE);
+	for (i = 0; i < WORDS; i++)
+		CHECK(table[i] == 0);
+	CHECK(valid());
+	untouched_before((const uint8_t *)table);
 }
 
 static void one_step(void)
@@ -383,14 +440,23 @@ static void one_step(void)
 		command(op, frame, length);
 		break;
 	case 1:
+		if (op == 0xf9) {
+			make_fresh();
+			break;
+		}
+		if (op & 0x80) {
+			/* the last of them reach beyond the numbers that there are */
+			first_number = half() % (NUMBERS + 1);
+			break;
+		}
 		s.kind = DRAINED;
-		s.stream = byte() & 15;
+		s.stream = stream_number(byte());
 		step(&s);
 		break;
 	case 2:
 	case 3:
 		s.kind = FINISH;
-		s.stream = byte() & 15;
+		s.stream = stream_number(byte());
 		s.queue_type = VIRTIO_VIDEO_QUEUE_TYPE_INPUT + (op >> 3 & 1);
 		if (op & 0x80)
 			s.queue_type = half();
@@ -440,6 +506,7 @@ int LLVMFuzzerTestOneInput(const uint8_t *data, size_t size)
 	}
 	input = data;
 	left = size;
+	first_number = 0;
 	mode = byte();
 	words = length_near(WORDS, MOST_WORDS);
 	table = (uint32_t *)(void *)lend(&table_area, words * 4);
@@ -456,8 +523,7 @@ int LLVMFuzzerTestOneInput(const uint8_t *data, size_t size)
 
 	/* a device made by steps; at the end, if the mode says so, words are changed */
 	memset(table, 0x5a, words * 4);
-	CHECK(virtio_video_fresh(table, words) ==
-	      (words < WORDS ? VIRTIO_VIDEO_REFUSAL_SHORT_TABLE : VIRTIO_VIDEO_REFUSAL_NONE));
+	make_fresh();
 	while (left > 8)
 		one_step();
 	note_fullness();

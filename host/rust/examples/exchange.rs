@@ -109,8 +109,13 @@ fn main() {
     host.command("clear the input queue", &guest::clear(7, Input));
     host.command("queue output 1", &guest::queue(7, Output, 1, 0));
     host.command("destroy stream 7", &guest::destroy(7));
+    host.finish(Output, 1, 0, 2066);
+    host.command("create stream 7 again", &guest::create(7, h264, ""));
     host.command("half a header", &guest::destroy(7)[..4]);
 
+    // The stream is gone, but not that its number is spent: only a reset forgets it.
+    assert_ne!(host.decoder.table(), Decoder::new().table());
+    host.decoder.reset();
     assert_eq!(host.decoder.table(), Decoder::new().table());
-    println!("The device is as it was at the start.");
+    println!("The device is reset, and as it was at the start.");
 }

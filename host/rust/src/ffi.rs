@@ -77,7 +77,8 @@ extern "C" {
     ) -> SoundOutcome;
 }
 
-/// Makes the table that of a device without streams; gives 0, or 1 for a short table.
+/// Makes the table that of a device without streams, on which no number is spent; gives 0, or 1 for a
+/// short table.
 pub fn fresh(table: &mut [u32]) -> u32 {
     // SAFETY: pointer and length are those of one slice that is lent for the call.
     unsafe { virtio_video_fresh(table.as_mut_ptr(), table.len()) }

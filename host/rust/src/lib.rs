@@ -88,7 +88,7 @@ pub struct Finish {
     pub timestamp: u64,
 }
 
-/// A device: its table of 4,096 words, and a room for the answers of one step.
+/// A device: its table of 4,160 words, and a room for the answers of one step.
 ///
 /// The table is all that a device is. A copy of it ([`table`](Decoder::table)) is a saved device, and
 /// [`from_words`](Decoder::from_words) is that device again. A clone is a second device.
@@ -99,7 +99,7 @@ pub struct Decoder {
 }
 
 impl Decoder {
-    /// A device without streams.
+    /// A device without streams, on which no stream number is spent.
     pub fn new() -> Self {
         let mut decoder = Self::from_words(&[0; TABLE_WORDS]);
         decoder.reset();
@@ -134,6 +134,29 @@ impl Decoder {
 
     /// Makes this a device without streams, as at a reset of the virtio device. What is still pending
     /// is not answered.
+    ///
+    /// It also gives the spent stream numbers back, which nothing else does: a number whose creation
+    /// succeeded is for no second stream, also once its own is destroyed.
+    ///
+    /// ```
+    /// use virtio_video_decoder::{wire, Decoder, Refusal};
+    ///
+    /// let mut create = [0; 88];
+    /// create[..2].copy_from_slice(&[0x01, 0x01]);
+    /// create[4] = 7;
+    /// create[16..18].copy_from_slice(&[0x02, 0x10]); // H.264
+    /// let destroy = [0x02, 0x01, 0, 0, 7, 0, 0, 0];
+    /// let done = wire::RESP_OK_NODATA.to_le_bytes();
+    /// let invalid_stream = wire::RESP_ERR_INVALID_STREAM_ID.to_le_bytes();
+    ///
+    /// let mut decoder = Decoder::new();
+    /// for (frame, code) in [(&create[..], done), (&destroy, done), (&create, invalid_stream)] {
+    ///     assert_eq!(decoder.command(1, frame)?.next().unwrap().response[..4], code);
+    /// }
+    /// decoder.reset();
+    /// assert_eq!(decoder.command(1, &create)?.next().unwrap().response[..4], done);
+    /// # Ok::<(), Refusal>(())
+    /// ```
     pub fn reset(&mut self) {
         let refusal = ffi::fresh(self.table.as_mut_slice());
         debug_assert_eq!(refusal, 0, "the table has its full length");

@@ -20,7 +20,7 @@ use std::fmt;
 #[derive(Clone, Copy, Debug, PartialEq, Eq, Hash)]
 #[repr(u32)]
 pub enum Refusal {
-    /// The table has fewer than 4,096 words. A [`Decoder`](crate::Decoder) never has.
+    /// The table has fewer than 4,160 words. A [`Decoder`](crate::Decoder) never has.
     ShortTable = 1,
     /// The words of the table do not stand for a device: they were changed or come from elsewhere.
     InvalidTable = 2,
@@ -60,7 +60,7 @@ impl Refusal {
 impl fmt::Display for Refusal {
     fn fmt(&self, f: &mut fmt::Formatter<'_>) -> fmt::Result {
         let text = match self {
-            Refusal::ShortTable => "the table has fewer than 4096 words",
+            Refusal::ShortTable => "the table has fewer than 4160 words",
             Refusal::InvalidTable => "the words of the table do not stand for a device",
             Refusal::ShortRoom => "the answer room has fewer than 1056 bytes",
             Refusal::ShortCommand => "the command has no whole header",

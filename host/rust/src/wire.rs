@@ -12,7 +12,7 @@ pub const F_RESOURCE_NON_CONTIG: u32 = 1;
 
 /// Command, answered with [`RESP_ERR_INVALID_OPERATION`].
 pub const CMD_QUERY_CAPABILITY: u32 = 0x0100;
-/// Command of 88 bytes.
+/// Command of 88 bytes. Its success spends the stream's number, one of the [`STREAM_NUMBERS`].
 pub const CMD_STREAM_CREATE: u32 = 0x0101;
 /// Command of 8 bytes.
 pub const CMD_STREAM_DESTROY: u32 = 0x0102;
@@ -47,7 +47,8 @@ pub const RESP_OK_GET_PARAMS: u32 = 0x0203;
 pub const RESP_ERR_INVALID_OPERATION: u32 = 0x0300;
 /// Error: no place for another stream or resource.
 pub const RESP_ERR_OUT_OF_MEMORY: u32 = 0x0301;
-/// Error: no such stream, or for a creation one that is there.
+/// Error: no such stream; or for a creation a number that is spent, or none of the
+/// [`STREAM_NUMBERS`].
 pub const RESP_ERR_INVALID_STREAM_ID: u32 = 0x0302;
 /// Error: no such resource, or for a creation one that is there.
 pub const RESP_ERR_INVALID_RESOURCE_ID: u32 = 0x0303;
@@ -89,8 +90,11 @@ pub const BUFFER_FLAG_ERR: u32 = 0x0001;
 /// Buffer flag: the last output of a drain.
 pub const BUFFER_FLAG_EOS: u32 = 0x0002;
 
-/// Streams of a device.
+/// Streams of a device at a time.
 pub const MAX_STREAMS: usize = 8;
+/// Numbers that a stream can have, from 0 on. Each is for one stream: no other gets it until the
+/// table is made fresh.
+pub const STREAM_NUMBERS: usize = 1024;
 /// Resources in each of the two queues of a stream.
 pub const MAX_RESOURCES: usize = 16;
 /// Memory entries of a resource.
@@ -103,6 +107,6 @@ pub const MAX_RESP_LENGTH: usize = 120;
 pub const MAX_CMD_LENGTH: usize = 4184;
 
 /// Words of a device table.
-pub const TABLE_WORDS: usize = 4096;
+pub const TABLE_WORDS: usize = 4160;
 /// Bytes of room that a step asks for, which is the most that one writes.
 pub const ANSWER_ROOM: usize = 1056;

@@ -1,6 +1,6 @@
 //! The core compared with the independent device: each result, each byte of the room and each word
-//! of the table, on seeded random steps and on tables with each word made wrong. `STEPS` sets the
-//! number of random steps, `SEED` the first seed.
+//! of the table, on seeded random steps, on each stream number and on tables with each word made
+//! wrong. `STEPS` sets the number of random steps, `SEED` the first seed.
 
 mod independent;
 
@@ -10,7 +10,8 @@ use std::time::Instant;
 
 use independent::coverage::{Coverage, TABLE_NOT_VALID, TABLE_SHORT};
 use independent::device::*;
-use independent::layout::{self, Broken, BLOCK, WORDS};
+use independent::frames;
+use independent::layout::{self, Broken, BEHIND_AT, BLOCK, SPENT_AT, WORDS};
 use independent::on_words::{Core, OnWords, Outcome};
 use independent::random::{Generator, Rng, ODD_WORDS};
 use independent::slips;
@@ -45,6 +46,15 @@ fn each_word_made_wrong() {
     match compare_tables(&UnderTest::default(), variable("SEED", SEED)) {
         Err(mismatch) => panic!("{mismatch}"),
         Ok(probes) => println!("{probes} tables, {:.1} s", start.elapsed().as_secs_f64()),
+    }
+}
+
+#[test]
+fn each_number_is_spent_once() {
+    let start = Instant::now();
+    match compare_numbers(&UnderTest::default()) {
+        Err(mismatch) => panic!("{mismatch}"),
+        Ok(steps) => println!("{steps} steps, {:.1} s", start.elapsed().as_secs_f64()),
     }
 }
 
@@ -144,13 +154,20 @@ impl<C: Core> Run<'_, C> {
             device = self.generator.lent();
             table = self.generator.table(&device);
         }
-        self.generator.start_anew();
+        self.start_table(&Spent::default());
         let steps = self.generator.rng.within(100, 1500) as u64;
         let end = last.min(self.step + steps);
-        while self.step < end {
+        while self.step < end || self.step < last && self.generator.has_plan() {
+            // With no stream and no number left there is little to meet.
+            let over = device.spent.count() == NUMBERS && device.places.iter().all(Option::is_none);
+            if self.generator.rng.below(if over { 20 } else { 500 }) == 0 {
+                self.fresh_again(&mut table, &mut device)?;
+            }
             let act = self.generator.act(&device);
             let edge = self.generator.edge;
-            if self.generator.rng.percent(9) {
+            // Reports are rarer than commands.
+            let odd = if matches!(act, Act::Command { .. }) { 8 } else { 20 };
+            if self.generator.rng.percent(odd) {
                 self.odd_step(&table, &device, &act)?;
             }
             self.step(&mut table, &mut device, &act, edge)?;
@@ -158,30 +175,66 @@ impl<C: Core> Run<'_, C> {
         Ok(())
     }
 
+    /// Another table, or the same one made fresh after these numbers were spent.
+    fn start_table(&mut self, forgotten: &Spent) {
+        self.generator.start_anew(forgotten);
+        self.coverage.start_table(forgotten.clone());
+    }
+
     /// Makes a table of any words fresh, and one that is too short.
     fn fresh(&mut self) -> Result<Vec<u32>, Mismatch> {
-        for enough in [false, true] {
-            let mut table = self.generator.garbage_table(enough);
-            let mut expected = table.clone();
-            if enough {
-                expected[..WORDS].fill(0);
-            }
-            let result = self.core.fresh(&mut table);
-            self.step += 1;
-            self.coverage.steps += 1;
-            if result != u32::from(!enough) {
-                return Err(
-                    self.mismatch(&"fresh", format!("result {result} with {} words", table.len()))
-                );
-            }
-            if let Some(what) = difference("word", &table, &expected) {
-                return Err(self.mismatch(&"fresh", what));
-            }
-            if enough {
-                return Ok(table);
-            }
+        let mut short = self.generator.garbage_table(false);
+        self.make_fresh(&mut short)?;
+        let mut table = self.generator.garbage_table(true);
+        self.make_fresh(&mut table)?;
+        Ok(table)
+    }
+
+    /// Makes the table fresh amid its steps, and a part of it that is too short: with the records
+    /// the spent numbers are forgotten.
+    fn fresh_again(&mut self, table: &mut [u32], device: &mut Device) -> Result<(), Mismatch> {
+        let part = self.generator.short_length();
+        self.make_fresh(&mut table[..part])?;
+        self.make_fresh(table)?;
+        self.start_table(&device.spent);
+        *device = Device::default();
+        Ok(())
+    }
+
+    /// Makes a table fresh, if it has enough words.
+    fn make_fresh(&mut self, table: &mut [u32]) -> Result<(), Mismatch> {
+        let enough = table.len() >= WORDS;
+        let mut expected = table.to_vec();
+        if enough {
+            expected[..WORDS].fill(0);
         }
-        unreachable!("the second table has enough words");
+        let result = self.core.fresh(table);
+        self.step += 1;
+        self.coverage.steps += 1;
+        self.coverage.count_length(FRESH, table.len(), enough);
+        if result != u32::from(!enough) {
+            let what = format!("result {result} with {} words", table.len());
+            return Err(self.mismatch(&"fresh", what));
+        }
+        match difference("word", table, &expected) {
+            Some(what) => Err(self.mismatch(&"fresh", what)),
+            None => Ok(()),
+        }
+    }
+
+    /// A number is created twice, destroyed, created once more and then reported as drained.
+    fn life(
+        &mut self,
+        table: &mut [u32],
+        device: &mut Device,
+        number: u32,
+    ) -> Result<(), Mismatch> {
+        let create = frames::stream_create(number, 0x1002, b"life");
+        let destroy = frames::frame(STREAM_DESTROY, number, 8);
+        for frame in [create.clone(), create.clone(), destroy, create] {
+            self.step(table, device, &Act::Command { ticket: number, frame }, None)?;
+        }
+        self.step(table, device, &Act::Drained { stream: number }, None)
     }
 
     /// One step with all that it needs.
@@ -193,8 +246,10 @@ impl<C: Core> Run<'_, C> {
         edge: Option<&'static str>,
     ) -> Result<(), Mismatch> {
         let mut room = Room::new(&mut self.generator, false);
+        let before = device.clone();
         let done = self.compare(table, Some(device), act, &mut room)?;
         self.coverage.count(act, &done, edge);
+        self.coverage.count_number(&before, act, &done);
         self.coverage.count_depth(device, &done.written, table.len() - WORDS);
         Ok(())
     }
@@ -212,7 +267,7 @@ impl<C: Core> Run<'_, C> {
             device = layout::read(&table[..WORDS], None).ok();
         }
         if cut {
-            table.truncate(self.generator.rng.pick(&[0, 1, 512, WORDS - 1, WORDS - 1]));
+            table.truncate(self.generator.short_length());
         }
         let mut room = Room::new(&mut self.generator, short);
         let done = self.compare(&mut table, device.as_mut(), act, &mut room)?;
@@ -233,6 +288,12 @@ impl<C: Core> Run<'_, C> {
         let mut expected_room = room.bytes.clone();
         let outcome = self.core.step(table, act, room.lent());
         self.step += 1;
+        let kind = match act {
+            Act::Command { .. } => COMMAND,
+            Act::Finish(_) => FINISH,
+            Act::Drained { .. } => DRAINED,
+        };
+        self.coverage.count_length(kind, table.len(), table.len() >= WORDS);
 
         let refused = |refusal, why| Done { refusal, written: Vec::new(), why: Some(why) };
         let length = room.lent().len();
@@ -310,71 +371,159 @@ fn difference<T: PartialEq + fmt::LowerHex>(
     Some(format!("{what} {at} is {:#x}, expected {:#x}", found[at], expected[at]))
 }
 
-/// Each of the 4,096 words of some valid tables set to each odd word and some more: the core takes
+/// Each stream number, and some that none can be, on a table where it alone is spent, or all but it
+/// are; and all of them one after another on one table. Returns the number of steps.
+fn compare_numbers(core: &impl Core) -> Result<u64, Mismatch> {
+    let mut run = Run {
+        core,
+        generator: Generator::new(SEED),
+        coverage: &mut Coverage::default(),
+        seed: SEED,
+        step: 0,
+        done: 0,
+    };
+    let numbers = || (0..1100).chain([2047, 2048, 0x0001_0005, 0x8000_0005, u32::MAX]);
+    for number in numbers() {
+        for alone in [true, false] {
+            let mut device = Device::default();
+            let spent = (0..NUMBERS as u32).filter(|&other| (other == number) == alone);
+            spent.for_each(|other| device.spent.add(other));
+            let mut table = run.generator.table(&device);
+            run.life(&mut table, &mut device, number)?;
+        }
+    }
+    let (mut table, mut device) = (run.fresh()?, Device::default());
+    for _ in 0..2 {
+        for number in numbers() {
+            run.life(&mut table, &mut device, number)?;
+        }
+        run.fresh_again(&mut table, &mut device)?;
+    }
+    Ok(run.step)
+}
+
+/// Each of the 4,160 words of some valid tables set to each odd word and some more: the core takes
 /// the table exactly where the rules of docs/LAYOUT.md do. Returns the number of tables tried.
 fn compare_tables(core: &impl Core, seed: u64) -> Result<u64, Mismatch> {
-    let mut rng = Rng::new(seed);
-    let mut broken_rules = Vec::new();
-    let mut heads = BTreeSet::new();
-    let mut probes = 0;
+    let mut probes = Probes {
+        core,
+        seed,
+        rng: Rng::new(seed),
+        count: 0,
+        rules: Vec::new(),
+        met: BTreeSet::new(),
+    };
     for device in tables_to_spoil(seed) {
+        probes.each_word(&device)?;
+    }
+    probes.all_met();
+    Ok(probes.count)
+}
+
+/// Tables with one word made wrong.
+struct Probes<'p, C> {
+    core: &'p C,
+    seed: u64,
+    rng: Rng,
+    count: u64,
+    /// The rules that were broken.
+    rules: Vec<Broken>,
+    /// How some of them were broken, where it is to be in each of several ways: the rule, the word,
+    /// the value or what it is, and the kind of step.
+    met: BTreeSet<(Broken, usize, u32, usize)>,
+}
+
+impl<C: Core> Probes<'_, C> {
+    /// Sets each word of the table of these records to one value after another.
+    fn each_word(&mut self, device: &Device) -> Result<(), Mismatch> {
         let mut table = vec![0; WORDS];
-        layout::write(&device, &mut table);
+        layout::write(device, &mut table);
         let mut refused = vec![true; WORDS];
         for at in 0..WORDS {
             let kept = table[at];
             let more = [
                 0x0001_0001,
                 0x8000_0002,
-                rng.word() | 1,
-                kept ^ 1 << rng.below(32),
-                table[rng.below(WORDS)],
+                self.rng.word() | 1,
+                kept ^ 1 << self.rng.below(32),
+                kept.wrapping_add(1024),
+                table[self.rng.below(WORDS)],
             ];
             for (turn, value) in ODD_WORDS.into_iter().chain(more).enumerate() {
                 if value == kept {
                     continue;
                 }
                 table[at] = value;
-                let read = layout::read(&table, None);
-                probes += 1;
                 // Over the places, each value of a block's word meets each kind of step.
                 let kind = (turn + at / BLOCK) % 3;
-                let (act, otherwise) = refused_anyway(kind);
-                let expected =
-                    Outcome { refusal: if read.is_ok() { otherwise } else { 2 }, written: 0 };
-                let mut lent = table.clone();
-                let mut room = [0xa5; ROOM];
-                let outcome = core.step(&mut lent, &act, &mut room);
-                let unchanged = lent == table && room == [0xa5; ROOM];
-                if outcome != expected || !unchanged {
-                    return Err(Mismatch {
-                        seed,
-                        step: probes,
-                        step_of_run: probes,
-                        act: format!("word {at} set to {value:#x}, {act:x?}"),
-                        what: format!(
-                            "{outcome:?}, expected {expected:?} ({read:?}), unchanged {unchanged}"
-                        ),
-                    });
-                }
-                if read == Err(Broken::QueueHead) && [1, 2, u32::MAX].contains(&value) {
-                    heads.insert((at % BLOCK, value, kind));
-                }
-                match read {
+                match self.lend(&table, at, kind)? {
                     Ok(_) => refused[at] = false,
-                    Err(rule) if !broken_rules.contains(&rule) => broken_rules.push(rule),
-                    Err(_) => {}
+                    Err(rule) => self.note(rule, at, value, kind),
                 }
             }
             table[at] = kept;
         }
-        let unused = layout::without_use(&device);
+        let unused = layout::without_use(device);
         assert!(unused.iter().all(|&at| refused[at]), "a word without use was taken");
+        if device.places.iter().all(Option::is_none) {
+            assert!(!refused[SPENT_AT..BEHIND_AT].contains(&true), "any numbers may be spent");
+        }
+        Ok(())
     }
-    broken_rules.sort();
-    assert_eq!(broken_rules, Broken::ALL, "each rule is to be broken");
-    assert_eq!(heads.len(), 2 * 3 * 3, "word 0 of each queue, each value and each kind of step");
-    Ok(probes)
+
+    /// Lends a table in which this word was changed, to a step that is refused anyway. Returns what
+    /// the table stands for.
+    fn lend(
+        &mut self,
+        table: &[u32],
+        at: usize,
+        kind: usize,
+    ) -> Result<Result<Device, Broken>, Mismatch> {
+        let read = layout::read(table, None);
+        self.count += 1;
+        let (act, otherwise) = refused_anyway(kind);
+        let expected = Outcome { refusal: if read.is_ok() { otherwise } else { 2 }, written: 0 };
+        let mut lent = table.to_vec();
+        let mut room = [0xa5; ROOM];
+        let outcome = self.core.step(&mut lent, &act, &mut room);
+        let unchanged = lent == table && room == [0xa5; ROOM];
+        if outcome == expected && unchanged {
+            return Ok(read);
+        }
+        Err(Mismatch {
+            seed: self.seed,
+            step: self.count,
+            step_of_run: self.count,
+            act: format!("word {at} set to {:#x}, {act:x?}", table[at]),
+            what: format!("{outcome:?}, expected {expected:?} ({read:?}), unchanged {unchanged}"),
+        })
+    }
+
+    /// Notes the rule that was broken by setting a word to a value, and how.
+    fn note(&mut self, rule: Broken, at: usize, value: u32, kind: usize) {
+        if !self.rules.contains(&rule) {
+            self.rules.push(rule);
+        }
+        let (word, value) = match rule {
+            Broken::QueueHead if [1, 2, u32::MAX].contains(&value) => (at % BLOCK, value),
+            Broken::Behind => (at, 1),
+            // A live number's bit is dropped, or the number becomes another, or one above 1,023.
+            Broken::NotSpent if at >= SPENT_AT => (SPENT_AT, 0),
+            Broken::NotSpent => (at % BLOCK, u32::from(value as usize >= NUMBERS)),
+            _ => return,
+        };
+        self.met.insert((rule, word, value, kind));
+    }
+
+    /// Each rule was broken, and some of them in each way by each kind of step.
+    fn all_met(&mut self) {
+        self.rules.sort();
+        assert_eq!(self.rules, Broken::ALL, "each rule is to be broken");
+        let ways = |rule| self.met.iter().filter(|met| met.0 == rule).count();
+        assert_eq!(ways(Broken::QueueHead), 3 * 2 * 3, "word 0 of each queue, each value");
+        assert_eq!(ways(Broken::Behind), 3 * (WORDS - BEHIND_AT), "each word without use");
+        assert_eq!(ways(Broken::NotSpent), 3 * 3, "each way not to be spent");
+    }
 }
 
 /// A step of each of three kinds, and the refusal that it meets on a valid table.
@@ -390,12 +539,16 @@ fn refused_anyway(kind: usize) -> (Act, u32) {
     }
 }
 
-/// Valid tables of each sort: none live, all full, and some with holes and each state.
+/// Valid tables of each sort: none live, all numbers spent, all full, and some with holes and each
+/// state.
 fn tables_to_spoil(seed: u64) -> Vec<Device> {
     let mut generator = Generator::new(seed);
+    let mut over = Device::default();
+    (0..NUMBERS as u32).for_each(|number| over.spent.add(number));
     let mut full = Device::default();
-    for (number, place) in full.places.iter_mut().enumerate() {
-        let mut stream = Stream::new(number as u32, 0x1003);
+    for (number, place) in (0..NUMBERS as u32).rev().zip(&mut full.places) {
+        full.spent.add(number);
+        let mut stream = Stream::new(number, 0x1003);
         stream.drain = Some(9);
         for queue in [&mut stream.input, &mut stream.output] {
             for (number, slot) in queue.resources.iter_mut().enumerate() {
@@ -405,7 +558,7 @@ fn tables_to_spoil(seed: u64) -> Vec<Device> {
         }
         *place = Some(stream);
     }
-    let mut devices = vec![Device::default(), full];
+    let mut devices = vec![Device::default(), over, full];
     while devices.len() < 6 {
         let device = generator.lent();
         let streams: Vec<&Stream> = device.places.iter().flatten().collect();

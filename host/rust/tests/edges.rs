@@ -1,11 +1,11 @@
-//! Document 01's edges and examples with the answers that it gives, written out by hand. They hold
-//! the independent device to the paper, and the system under test too.
+//! The edges and examples of document 01, as 02 amends it, with the answers that they give, written
+//! out by hand. They hold the independent device to the papers, and the system under test too.
 
 mod independent;
 
 use independent::device::*;
 use independent::frames::*;
-use independent::layout::{BLOCK, INPUT_AT, OUTPUT_AT, WORDS};
+use independent::layout::{BLOCK, INPUT_AT, OUTPUT_AT, SPENT_AT, WORDS};
 use independent::on_words::{Core, OnWords, Outcome};
 use independent::UnderTest;
 
@@ -78,6 +78,63 @@ impl<C: Core + Default> Host<C> {
     fn drain(&mut self, ticket: u32) {
         assert_eq!(self.command(ticket, &frame(STREAM_DRAIN, 7, 8)), Ok(vec![]));
     }
+
+    /// Creates streams, which is to succeed.
+    fn create(&mut self, numbers: impl IntoIterator<Item = u32>) {
+        for number in numbers {
+            assert_eq!(self.command(1, &stream_create(number, MPEG2, b"")), ok(1, number));
+        }
+    }
+
+    /// Destroys a stream that has nothing to answer.
+    fn destroy(&mut self, number: u32) {
+        assert_eq!(self.command(1, &frame(STREAM_DESTROY, number, 8)), ok(1, number));
+    }
+
+    /// The words behind the blocks: those of the spent numbers, and those without use.
+    fn behind(&self) -> &[u32] {
+        &self.table[4096..4160]
+    }
+
+    /// One step of each kind is refused with 2 and changes nothing.
+    fn invalid(&mut self) {
+        let before = self.table.clone();
+        assert_eq!(self.command(1, &frame(QUERY_CONTROL, 7, 16)), Err(2));
+        assert_eq!(self.finish(7, INPUT, 1, 0, 0), Err(2));
+        assert_eq!(self.drained(7), Err(2));
+        assert_eq!(self.table, before);
+    }
+
+    /// One step of each kind is tested further, on a device without stream 7 or with nothing of it
+    /// pending.
+    fn valid(&mut self) {
+        let before = self.table.clone();
+        assert!(self.command(1, &frame(QUERY_CONTROL, 7, 16)).is_ok());
+        assert_eq!(self.finish(7, INPUT, 1, 0, 0), Err(5));
+        assert_eq!(self.drained(7), Err(5));
+        assert_eq!(self.table, before);
+    }
+}
+
+/// Creations of a number with one fault each, of length, memory types, format and tag.
+fn bad_creations(number: u32) -> Vec<Vec<u8>> {
+    let good = stream_create(number, MPEG2, b"");
+    let with = |at, word| {
+        let mut other = good.clone();
+        put(&mut other, at, word);
+        other
+    };
+    vec![
+        good[..8].to_vec(),
+        good[..87].to_vec(),
+        [&good[..], &[0]].concat(),
+        with(8, 1),
+        with(12, 1),
+        with(16, 0x0fff),
+        with(16, 0x1006),
+        stream_create(number, MPEG2, &[b'x'; 64]),
+        stream_create(number, MPEG2, b"\xc3"),
+    ]
 }
 
 fn answered(outcome: Outcome, room: &[u8]) -> Answered {
@@ -207,7 +264,11 @@ cases! {
         let queue = resource_queue(7, INPUT, 9, 0, 8);
         let set = set_params(7, OUTPUT, 3, 16, 16, 0);
         for (good, fields, answer) in [
-            (create, &[(0, 0x0300), (8, 0x0304), (12, 0x0304), (16, 0x0304)][..], ok(3, 1)),
+            (
+                create,
+                &[(0, 0x0300), (4, 0x0302), (8, 0x0304), (12, 0x0304), (16, 0x0304)][..],
+                ok(3, 1),
+            ),
             (resource, &[(4, 0x0302), (8, 0x0304), (16, 0x0304), (20, 0x0304), (56, 0x0304)], ok(3, 7)),
             (queue, &[(4, 0x0302), (8, 0x0304), (12, 0x0303), (24, 0x0304)], Ok(vec![])),
             (set, &[(4, 0x0302), (8, 0x0304), (12, 0x0304), (16, 0x0304), (20, 0x0304)], ok(3, 7)),
@@ -563,6 +624,9 @@ cases! {
         expected.push((300, vec![0x0200, 7]));
         expected.push((301, vec![0x0200, 7]));
         assert_eq!(host.command(301, &frame(STREAM_DESTROY, 7, 8)), Ok(expected));
+        // Nothing is left of it but that its number is spent.
+        assert_eq!(host.table[SPENT_AT], 1 << 7);
+        host.table[SPENT_AT] = 0;
         assert!(host.table[..WORDS].iter().all(|&word| word == 0));
     }
 
@@ -578,6 +642,348 @@ cases! {
         assert_eq!(host.command(2, &frame(QUERY_CONTROL, 7, 24)), error(2, 0x0304, 7));
         assert_eq!(host.command(2, &frame(SET_CONTROL, 7, 24)), error(2, 0x0305, 7));
         assert_eq!(host.command(2, &frame(SET_CONTROL, 8, 24)), error(2, 0x0302, 8));
+    }
+
+    /// Streams have the numbers 0 to 1,023. One above is refused, and is no stream to other steps.
+    fn numbers_1023_and_1024(host: new) {
+        for number in [1024, 1025, 2047, 0x0001_0001, 0x8000_0000, u32::MAX] {
+            let create = stream_create(number, MPEG2, b"");
+            assert_eq!(host.command(2, &create), error(2, 0x0302, number));
+            let drain = frame(STREAM_DRAIN, number, 8);
+            assert_eq!(host.command(2, &drain), error(2, 0x0302, number));
+            assert_eq!(host.finish(number, INPUT, 1, 0, 0), Err(5));
+            assert_eq!(host.drained(number), Err(5));
+            assert!(host.table[..WORDS].iter().all(|&word| word == 0));
+        }
+        for number in [1023, 1022, 1, 0] {
+            host.create([number]);
+            assert_eq!(host.command(2, &frame(STREAM_DRAIN, number, 8)), Ok(vec![]));
+            assert_eq!(host.drained(number), ok(2, number));
+        }
+    }
+
+    /// A number is for one stream: it is refused while that lives, and for good once it is gone.
+    fn created_again(host: with_stream) {
+        let again = stream_create(7, H264, b"seven");
+        assert_eq!(host.command(2, &again), error(2, 0x0302, 7));
+        host.destroy(7);
+        for other in [8, 9] {
+            let before = host.table.clone();
+            assert_eq!(host.command(2, &again), error(2, 0x0302, 7));
+            assert_eq!(host.table, before);
+            host.create([other]);
+        }
+    }
+
+    /// Each number once, and no ninth place is asked for. Then no creation is left, until the table
+    /// is made fresh.
+    fn every_number_once(host: new) {
+        let mut spent = [0; 64];
+        for number in 0..1024 {
+            host.create([number]);
+            spent[number as usize / 32] |= 1 << (number % 32);
+            assert_eq!(host.behind(), spent);
+            host.destroy(number);
+            assert_eq!(host.behind(), spent);
+        }
+        assert!(host.table[..4096].iter().all(|&word| word == 0));
+        for number in (0..1026).chain([u32::MAX]) {
+            let create = stream_create(number, MPEG2, b"");
+            assert_eq!(host.command(2, &create), error(2, 0x0302, number));
+        }
+        assert_eq!(host.core.fresh(&mut host.table), 0);
+        host.create(1016..1024);
+    }
+
+    /// A spent number, live or not, and one above 1,023: after the length, before the fields and
+    /// before the places.
+    fn order_of_a_creation(host: with_stream) {
+        host.create([8]);
+        host.destroy(8);
+        for full in [false, true] {
+            if full {
+                host.create(0..7);
+                assert_eq!(host.command(2, &stream_create(9, MPEG2, b"")), error(2, 0x0301, 9));
+            }
+            let before = host.table.clone();
+            for number in [7, 8, 1024, u32::MAX] {
+                let mut creations = bad_creations(number);
+                creations.push(stream_create(number, H264, b""));
+                for create in &creations {
+                    let code = if create.len() == 88 { 0x0302 } else { 0x0304 };
+                    assert_eq!(host.command(2, create), error(2, code, number));
+                }
+            }
+            assert_eq!(host.table, before);
+        }
+    }
+
+    /// A creation that fails spends nothing: the same number then succeeds, which spends it.
+    fn refused_creations(host: new) {
+        for (number, bad) in (0..).zip(bad_creations(0)) {
+            let mut bad = bad;
+            put(&mut bad, 4, number);
+            let before = host.table.clone();
+            assert_eq!(host.command(2, &bad), error(2, 0x0304, number));
+            assert_eq!(host.table, before);
+            host.create([number]);
+            host.destroy(number);
+            let create = stream_create(number, MPEG2, b"");
+            assert_eq!(host.command(2, &create), error(2, 0x0302, number));
+        }
+        // No room for the answer: a refusal.
+        let create = stream_create(20, MPEG2, b"");
+        let before = host.table.clone();
+        assert_eq!(host.core.command(&mut host.table, 2, &create, &mut [0; ROOM - 1]).refusal, 3);
+        assert_eq!(host.table, before);
+        host.create(20..28);
+        // No place, however often it is tried.
+        for number in [30, 1023, 30] {
+            let before = host.table.clone();
+            let create = stream_create(number, MPEG2, b"");
+            assert_eq!(host.command(2, &create), error(2, 0x0301, number));
+            assert_eq!(host.table, before);
+        }
+        for (freed, number) in [(20, 30), (27, 1023)] {
+            host.destroy(freed);
+            host.create([number]);
+            for spent in [freed, number] {
+                let create = stream_create(spent, MPEG2, b"");
+                assert_eq!(host.command(2, &create), error(2, 0x0302, spent));
+            }
+        }
+    }
+
+    /// What comes late for a destroyed stream meets no stream, now and after all that follows.
+    fn late_for_a_destroyed_stream(host: with_stream) {
+        let late = |host: &mut Host<C>| {
+            let before = host.table.clone();
+            for queue_type in [INPUT, OUTPUT] {
+                for (flags, refusal) in [(0, 5), (1, 5), (2, 5), (3, 5), (4, 6), (u32::MAX, 6)] {
+                    assert_eq!(host.finish(7, queue_type, 1, flags, 9), Err(refusal));
+                }
+            }
+            assert_eq!(host.drained(7), Err(5));
+            for command in [
+                frame(STREAM_DESTROY, 7, 8),
+                frame(STREAM_DRAIN, 7, 8),
+                resource_create(7, INPUT, 1, &[1], &[(0, 1)]),
+                resource_queue(7, INPUT, 1, 0, 0),
+                on_queue(RESOURCE_DESTROY_ALL, 7, INPUT),
+                on_queue(QUEUE_CLEAR, 7, OUTPUT),
+                on_queue(GET_PARAMS, 7, OUTPUT),
+                set_params(7, OUTPUT, 3, 64, 64, 0),
+                frame(QUERY_CONTROL, 7, 16),
+                frame(GET_CONTROL, 7, 16),
+                frame(SET_CONTROL, 7, 16),
+                stream_create(7, H264, b"seven"),
+            ] {
+                assert_eq!(host.command(2, &command), error(2, 0x0302, 7));
+            }
+            assert_eq!(host.table, before);
+        };
+        for queue_type in [INPUT, OUTPUT] {
+            host.resource(queue_type, 1);
+            host.queue(10, queue_type, 1, 5);
+        }
+        host.drain(11);
+        let plain = vec![0x0200, 7];
+        let stopped =
+            vec![buffer(10, 7, 5, 1), buffer(10, 7, 5, 1), (11, plain.clone()), (12, plain)];
+        assert_eq!(host.command(12, &frame(STREAM_DESTROY, 7, 8)), Ok(stopped));
+        late(&mut host);
+        // Another stream stands where it stood, with buffers of the same numbers and a drain.
+        host.create([8]);
+        for queue_type in [INPUT, OUTPUT] {
+            let import = resource_create(8, queue_type, 1, &[1], &[(0, 1)]);
+            assert_eq!(host.command(2, &import), ok(2, 8));
+            let queue = resource_queue(8, queue_type, 1, 6, 0);
+            assert_eq!(host.command(13, &queue), Ok(vec![]));
+        }
+        assert_eq!(host.command(14, &frame(STREAM_DRAIN, 8, 8)), Ok(vec![]));
+        late(&mut host);
+        assert_eq!(host.finish(8, INPUT, 1, 0, 9), Ok(vec![buffer(13, 8, 6, 0)]));
+        assert_eq!(host.drained(8), ok(14, 8));
+        late(&mut host);
+    }
+
+    /// Making the table fresh forgets every spent number; nothing else does.
+    fn fresh_forgets(host: with_stream) {
+        host.create([1023]);
+        host.destroy(7);
+        for number in [7, 1023] {
+            let create = stream_create(number, MPEG2, b"");
+            assert_eq!(host.command(2, &create), error(2, 0x0302, number));
+        }
+        // Too short a table is not made fresh.
+        assert_eq!(host.core.fresh(&mut host.table[..4159]), 1);
+        let create = stream_create(7, MPEG2, b"");
+        assert_eq!(host.command(2, &create), error(2, 0x0302, 7));
+        assert_eq!(host.core.fresh(&mut host.table), 0);
+        assert_eq!(host.behind(), [0; 64]);
+        host.create([7, 1023]);
+    }
+
+    /// Resource numbers are another matter: one that is not there now may be used again.
+    fn resource_numbers_come_back(host: with_stream) {
+        for queue_type in [INPUT, OUTPUT] {
+            for number in [5, u32::MAX] {
+                for _ in 0..3 {
+                    host.resource(queue_type, number);
+                    let again = resource_create(7, queue_type, number, &[1], &[(0, 1)]);
+                    assert_eq!(host.command(2, &again), error(2, 0x0303, 7));
+                    let free = on_queue(RESOURCE_DESTROY_ALL, 7, queue_type);
+                    assert_eq!(host.command(2, &free), ok(2, 7));
+                }
+            }
+        }
+    }
+
+    /// Number n is bit n % 32 of word 4,096 + n / 32. Its creation sets that bit, and nothing else
+    /// changes there until the table is made fresh.
+    fn bit_of_a_number(host: new) {
+        for (number, word, bit) in [
+            (0, 4096, 0x0000_0001),
+            (7, 4096, 0x0000_0080),
+            (31, 4096, 0x8000_0000),
+            (32, 4097, 0x0000_0001),
+            (500, 4111, 0x0010_0000),
+            (991, 4126, 0x8000_0000),
+            (992, 4127, 0x0000_0001),
+            (1023, 4127, 0x8000_0000),
+        ] {
+            assert_eq!(host.core.fresh(&mut host.table), 0);
+            let mut expected = [0; 64];
+            assert_eq!(host.behind(), expected);
+            expected[word - 4096] = bit;
+            host.create([number]);
+            assert_eq!(host.behind(), expected);
+            let import = resource_create(number, INPUT, 3, &[1], &[(0, 1)]);
+            assert_eq!(host.command(2, &import), ok(2, number));
+            assert_eq!(host.behind(), expected);
+            host.destroy(number);
+            assert_eq!(host.behind(), expected);
+        }
+    }
+
+    /// A live number that is not spent makes the table invalid.
+    fn live_and_not_spent(host: new) {
+        let numbers = [7, 0, 31, 32, 500, 992, 1022, 1023];
+        host.create(numbers);
+        for number in numbers {
+            let (at, bit) = (4096 + number as usize / 32, 1 << (number % 32));
+            host.valid();
+            host.table[at] ^= bit;
+            host.invalid();
+            host.table[at] ^= bit;
+        }
+        // Another number in place of that of the first stream: good where it is spent.
+        host.table[1] = 8;
+        host.invalid();
+        host.table[4096] |= 1 << 8;
+        host.valid();
+        host.table[4096] &= !(1 << 7);
+        host.valid();
+    }
+
+    /// A live number above 1,023 makes the table invalid, whatever is spent.
+    fn live_above_1023(host: with_stream) {
+        for spent in [0x0000_0080, u32::MAX] {
+            for word in &mut host.table[4096..4128] {
+                *word = spent;
+            }
+            for number in [1024, 1024 + 7, 2047, 0x0001_0007, 0x8000_0007, u32::MAX] {
+                host.table[1] = number;
+                host.invalid();
+            }
+            host.table[1] = 7;
+            host.valid();
+        }
+        host.table[1] = 1023;
+        host.valid();
+    }
+
+    /// A spent number need not be live; any are good.
+    fn spent_and_not_live(host: new) {
+        host.table[4096..4128].fill(u32::MAX);
+        host.valid();
+        for number in [0, 7, 31, 32, 1023, 1024] {
+            let create = stream_create(number, MPEG2, b"");
+            assert_eq!(host.command(2, &create), error(2, 0x0302, number));
+            let drain = frame(STREAM_DRAIN, number, 8);
+            assert_eq!(host.command(2, &drain), error(2, 0x0302, number));
+        }
+        // All but 500, which is the one that can be created.
+        host.table[4111] ^= 1 << 20;
+        host.valid();
+        for number in [499, 501] {
+            let create = stream_create(number, MPEG2, b"");
+            assert_eq!(host.command(2, &create), error(2, 0x0302, number));
+        }
+        host.create([500]);
+        assert_eq!(host.behind()[..32], [u32::MAX; 32]);
+        assert_eq!(host.behind()[32..], [0; 32]);
+    }
+
+    /// Words 4,128 to 4,159 have no use: where one is not zero, the table is invalid.
+    fn words_behind_the_spent_numbers(host: with_stream) {
+        for at in 4128..4160 {
+            for value in [1, 1 << 7, 1 << 31, u32::MAX] {
+                host.table[at] = value;
+                host.invalid();
+            }
+            host.table[at] = 0;
+            host.valid();
+        }
+        // The next word is no part of the table.
+        for value in [0, 1, u32::MAX] {
+            host.table[4160] = value;
+            host.valid();
+        }
+    }
+
+    /// A table of 4,159 words is refused by each call, one of 4,160 is not, and words behind are
+    /// neither read nor written.
+    fn table_of_4159_words_and_of_4160(host: with_stream) {
+        host.resource(INPUT, 1);
+        host.queue(2, INPUT, 1, 5);
+        host.table.resize(4160 + 64, u32::MAX);
+        let behind = host.table[4160..].to_vec();
+        let short = [0, 1, 4095, 4096, 4128, 4159];
+        let command = |frame| Act::Command { ticket: 3, frame };
+        let report = Report { stream: 7, queue_type: INPUT, resource: 1, flags: 0, timestamp: 0 };
+        for (act, answer) in [
+            (command(frame(STREAM_DRAIN, 7, 8)), Ok(vec![])),
+            (Act::Finish(report), Ok(vec![buffer(2, 7, 5, 0)])),
+            (Act::Drained { stream: 7 }, ok(3, 7)),
+            (command(stream_create(1023, MPEG2, b"")), ok(3, 1023)),
+            (command(frame(STREAM_DESTROY, 7, 8)), ok(3, 7)),
+        ] {
+            let before = host.table.clone();
+            let mut exact = host.table[..4160].to_vec();
+            let mut room = [0xee; ROOM];
+            for words in short {
+                let outcome = host.core.step(&mut host.table[..words], &act, &mut room);
+                assert_eq!(answered(outcome, &room), Err(1));
+                assert_eq!(host.table, before);
+            }
+            let outcome = host.core.step(&mut exact, &act, &mut room);
+            assert_eq!(answered(outcome, &room), answer);
+            assert_eq!(host.step(&act), answer);
+            assert_eq!(host.table[..4160], exact);
+            assert_eq!(host.table[4160..], behind);
+        }
+        let before = host.table.clone();
+        for words in short {
+            assert_eq!(host.core.fresh(&mut host.table[..words]), 1);
+            assert_eq!(host.table, before);
+        }
+        for words in [4160, 4160 + 64] {
+            host.table[..4160].fill(0x5a5a_5a5a);
+            assert_eq!(host.core.fresh(&mut host.table[..words]), 0);
+            assert!(host.table[..4160].iter().all(|&word| word == 0));
+            assert_eq!(host.table[4160..], behind);
+        }
     }
 
     /// "Tested 1, 3, 2, then 4".

@@ -90,7 +90,7 @@ fn video_constants_agree() {
         FORMAT_NV12 FORMAT_MPEG2 FORMAT_MPEG4 FORMAT_H264 FORMAT_HEVC FORMAT_VP8 FORMAT_VP9
         BUFFER_FLAG_ERR BUFFER_FLAG_EOS
         MAX_STREAMS MAX_RESOURCES MAX_ENTRIES MAX_PLANES MAX_RESP_LENGTH MAX_CMD_LENGTH
-        TABLE_WORDS ANSWER_ROOM
+        STREAM_NUMBERS TABLE_WORDS ANSWER_ROOM
     };
     constants_agree(&video(), "VIRTIO_VIDEO_", &numbers, include_str!("../src/wire.rs"));
     assert_eq!(video()["VIRTIO_ID_VIDEO_DECODER"], wire::ID_VIDEO_DECODER.into());

@@ -19,7 +19,9 @@ use std::thread;
 use std::time::{Duration, Instant};
 use std::{env, fs};
 
+use independent::coverage::{rare, Coverage};
 use independent::device::*;
+use independent::frames;
 use independent::log::{self, answers, answers_of, digits, line_of, Log, Reader, MOST_DIGITS};
 use independent::log_slips::{WrongReader, LOG_SLIPS};
 use independent::random::{Generator, Rng};
@@ -105,13 +107,9 @@ fn the_independent_log_by_hand() {
         assert_eq!(text(&answers(input)), output, "{}", text(input));
     }
     // A drain is taken in silence, and a last line of 4,189 bytes counts.
-    let create =
-        Act::Command { ticket: 1, frame: independent::frames::stream_create(7, 0x1000, b"") };
-    let control = |length| Act::Command {
-        ticket: 2,
-        frame: independent::frames::frame(SET_CONTROL, 7, length),
-    };
-    let drain = Act::Command { ticket: 3, frame: independent::frames::frame(STREAM_DRAIN, 7, 8) };
+    let create = Act::Command { ticket: 1, frame: frames::stream_create(7, 0x1000, b"") };
+    let control = |length| Act::Command { ticket: 2, frame: frames::frame(SET_CONTROL, 7, length) };
+    let drain = Act::Command { ticket: 3, frame: frames::frame(STREAM_DRAIN, 7, 8) };
     let acts = [create, drain, Act::Drained { stream: 7 }, control(4185), control(4184)];
     let input = acts.map(|act| line_of(&act)).join(&10);
     let output = "80010000000002000007000000\n\
@@ -119,6 +117,31 @@ fn the_independent_log_by_hand() {
                   ff07\n\
                   80020000000503000007000000\n";
     assert_eq!(text(&answers(&input)), output);
+}
+
+/// A number is spent for good, a refused creation spends nothing, and 1,023 is the last number.
+#[test]
+fn spent_numbers_by_hand() {
+    let create = |number, tag: &[u8]| frames::stream_create(number, 0x1000, tag);
+    let cases = [
+        (create(4, &[0xff]), "0403000004000000"),
+        (create(4, b""), "0002000004000000"),
+        (create(4, b""), "0203000004000000"),
+        (frames::frame(STREAM_DESTROY, 4, 8), "0002000004000000"),
+        (create(4, b""), "0203000004000000"),
+        (create(4, &[0xff]), "0203000004000000"),
+        (frames::frame(STREAM_DRAIN, 4, 8), "0203000004000000"),
+        (create(1023, b""), "00020000ff030000"),
+        (create(1024, b""), "0203000000040000"),
+        (create(u32::MAX, &[0xff]), "02030000ffffffff"),
+    ];
+    let mut log = Log::default();
+    for (frame, answer) in cases {
+        let line = line_of(&Act::Command { ticket: 9, frame });
+        assert_eq!(text(&log.line(&line)), format!("8009000000{answer}\n"), "{}", text(&line));
+    }
+    // A report for the old stream.
+    assert_eq!(text(&log.line(b"0204000000")), "ff05\n");
 }
 
 #[test]
@@ -153,7 +176,7 @@ fn random_logs_agree() {
     let program = program();
     let (seed, lines) = (variable("SEED", SEED), variable("LOG_LINES", LINES));
     let start = Instant::now();
-    let mut met = BTreeMap::new();
+    let mut met = Met::default();
     let (mut done, mut size) = (0, 0);
     for seed in seed.. {
         if done >= lines {
@@ -163,7 +186,7 @@ fn random_logs_agree() {
         println!("seed {seed}, {now} lines");
         let (input, output) = random_log(seed, now, &mut met);
         let mut rng = Rng::new(seed);
-        let short = random_log(seed, LINES_BY_BYTES, &mut BTreeMap::new());
+        let short = random_log(seed, LINES_BY_BYTES, &mut Met::default());
         let ways = [
             ("whole", vec![&input[..]], &input, &output),
             ("odd pieces", cut(&mut rng, &input), &input, &output),
@@ -178,14 +201,18 @@ fn random_logs_agree() {
         size += input.len();
     }
     println!("{done} lines, {size} bytes, {:.1} s", start.elapsed().as_secs_f64());
-    println!("{met:#?}");
+    println!("{:#?}", met.sorts);
+    let counts = met.coverage.of_log();
+    counts.iter().for_each(|(count, what)| println!("{count:>8}  {what}"));
     // A shorter run need not get everywhere.
     if lines >= LINES {
-        let rare: Vec<&str> = SORTS
+        let of_sorts = SORTS
             .into_iter()
-            .filter(|sort| met.get(sort).is_none_or(|&count| count < 20))
-            .collect();
-        assert!(rare.is_empty(), "too little was met: {rare:?}");
+            .map(|sort| (met.sorts.get(sort).copied().unwrap_or(0), sort.to_string()));
+        let mut complaints = rare(of_sorts.collect(), 20);
+        // In one log a number is created only once.
+        complaints.extend(rare(counts, 5));
+        assert!(complaints.is_empty(), "too little was met:\n{}", complaints.join("\n"));
     }
 }
 
@@ -262,21 +289,20 @@ fn a_failed_write_ends_the_program() {
 /// Each slip of the log program is caught by these logs, and the program without one passes.
 #[test]
 fn slips_are_caught() {
-    let mut logs: Vec<(Vec<u8>, Vec<u8>)> =
-        examples().into_iter().map(|(_, input, output)| (input, output)).collect();
     let seed = variable("SEED", SEED);
-    logs.extend((seed..seed + 3).map(|seed| random_log(seed, 5_000, &mut BTreeMap::new())));
+    let logs = [examples(), random_logs(seed)].concat();
     let differs = |slip| {
-        logs.iter().position(|(input, output)| {
+        let log = logs.iter().find(|(_, input, output)| {
             let pieces = cut(&mut Rng::new(seed), input);
             WrongReader::answers(slip, &pieces) != *output
-        })
+        });
+        log.map(|(name, ..)| name)
     };
     assert_eq!(differs(None), None, "without a slip");
     let mut missed = Vec::new();
     for &slip in LOG_SLIPS {
         match differs(Some(slip)) {
-            Some(at) => println!("{slip:?}: log {at}"),
+            Some(name) => println!("{slip:?}: {name}"),
             None => missed.push(slip),
         }
     }
@@ -287,7 +313,7 @@ fn slips_are_caught() {
 #[test]
 fn pieces_do_not_matter() {
     for seed in 1..=20 {
-        let (input, output) = random_log(seed, 500, &mut BTreeMap::new());
+        let (input, output) = random_log(seed, 500, &mut Met::default());
         let mut reader = Reader::default();
         let mut written = Vec::new();
         for piece in cut(&mut Rng::new(seed), &input) {
@@ -298,52 +324,49 @@ fn pieces_do_not_matter() {
     }
 }
 
-/// The example logs tell each slip of the device apart that they are to show.
+/// The example logs tell each slip of the device apart that a log shows, but for a drained report with
+/// an output still Queued, which is left to the random logs and to `edges.rs`.
 #[test]
 fn examples_tell_slips_apart() {
-    let examples = examples();
-    let mut missed = Vec::new();
-    for slip in slips::all().into_iter().filter(shown_by_examples) {
-        let caught: Vec<&str> = examples
-            .iter()
-            .filter(|(_, input, output)| {
-                answers_of(Device { slip: Some(slip), ..Device::default() }, input) != *output
-            })
-            .map(|(name, ..)| &name[..])
-            .collect();
-        println!("{slip:x?}: {caught:?}");
-        if caught.is_empty() {
-            missed.push(format!("{slip:x?}"));
-        }
-    }
+    let missed = not_told_apart(&examples(), |&slip| slip != Slip::DrainedWaitsForOutputs);
     assert!(missed.is_empty(), "no example tells of:\n{}", missed.join("\n"));
 }
 
-/// Places, states that go on alike, the table's words and rooms do not show in a log. A drained
-/// report with an output still Queued is left to the random logs and to `edges.rs`.
-fn shown_by_examples(slip: &Slip) -> bool {
-    !matches!(
-        slip,
-        Slip::Taken(_)
-            | Slip::Skipped(_, "answer buffer under 1,056 bytes")
-            | Slip::First(COMMAND, "command under 8 bytes")
-            | Slip::HighestPlace
-            | Slip::HighestSlot
-            | Slip::StreamsMoveDown
-            | Slip::StoppedIsCreated
-            | Slip::FinishedIsCreated
-            | Slip::TakenBy(..)
-            | Slip::QueueHeadTaken(_)
-            | Slip::QueueHeadOf1Taken
-            | Slip::HighQueueHeadTaken
-            | Slip::QueueHeadStopsQueueing
-            | Slip::ClearSetsQueueHead
-            | Slip::HolesRefused
-            | Slip::TableBeforeRoom
-            | Slip::RoomCleared
-            | Slip::FreshAllWords
-            | Slip::DrainedWaitsForOutputs
-    )
+/// The random logs tell each of them apart.
+#[test]
+fn random_logs_tell_slips_apart() {
+    let missed = not_told_apart(&random_logs(variable("SEED", SEED)), |_| true);
+    assert!(missed.is_empty(), "no random log tells of:\n{}", missed.join("\n"));
+}
+
+/// The slips of the device that a log shows, as far as they are asked for, and none of these does.
+fn not_told_apart(
+    logs: &[(String, Vec<u8>, Vec<u8>)],
+    asked: impl Fn(&Slip) -> bool,
+) -> Vec<String> {
+    let mut missed = Vec::new();
+    for slip in slips::all().into_iter().filter(shown_by_logs).filter(asked) {
+        let device = Device { slip: Some(slip), ..Device::default() };
+        let differs = |input: &[u8], output: &[u8]| answers_of(device.clone(), input) != output;
+        match logs.iter().find(|(_, input, output)| differs(input, output)) {
+            Some((name, ..)) => println!("{slip:x?}: {name}"),
+            None => missed.push(format!("{slip:x?}")),
+        }
+    }
+    missed
+}
+
+/// Places, states that go on alike, the table's words and rooms do not show in a log.
+fn shown_by_logs(slip: &Slip) -> bool {
+    !slip.of_words()
+        && !matches!(
+            slip,
+            Slip::HighestPlace
+                | Slip::HighestSlot
+                | Slip::StreamsMoveDown
+                | Slip::StoppedIsCreated
+                | Slip::FinishedIsCreated
+        )
 }
 
 /// The exchange in docs/LOG.md has the bytes of the example, with blanks and with runs of zeros
@@ -540,15 +563,43 @@ const SORTS: [&str; 26] = [
     "two frames",
 ];
 
+/// What random logs have met: the sorts of their lines, and what the lines did that are frames.
+#[derive(Default)]
+struct Met {
+    sorts: BTreeMap<&'static str, u64>,
+    coverage: Coverage,
+}
+
+impl Met {
+    fn count(&mut self, sort: &'static str, line: &[u8], device: &Device) {
+        *self.sorts.entry(sort).or_default() += 1;
+        if let Some(act) = log::frame(line) {
+            let done = device.clone().step(&act, ROOM);
+            self.coverage.count(&act, &done, None);
+            self.coverage.count_number(device, &act, &done);
+        }
+    }
+}
+
+/// Some random logs with their names and answers.
+fn random_logs(seed: u64) -> Vec<(String, Vec<u8>, Vec<u8>)> {
+    let log = |seed| {
+        let (input, output) = random_log(seed, 5_000, &mut Met::default());
+        (format!("seed {seed}"), input, output)
+    };
+    (seed..seed + 6).map(log).collect()
+}
+
 /// A random log and its answers, by seed. The generator aims at what the steps before have left. Of
 /// three seeds, one's log ends without byte 10 and one's in an over-long line without it.
-fn random_log(seed: u64, lines: u64, met: &mut BTreeMap<&'static str, u64>) -> (Vec<u8>, Vec<u8>) {
+fn random_log(seed: u64, lines: u64, met: &mut Met) -> (Vec<u8>, Vec<u8>) {
     let mut generator = Generator::new(seed);
     let mut log = Log::default();
+    met.coverage.start_table(Spent::default());
     let (mut input, mut output) = (Vec::new(), Vec::new());
     for _ in 0..lines {
         let (sort, line) = random_line(&mut generator, &log.device);
-        *met.entry(sort).or_default() += 1;
+        met.count(sort, &line, &log.device);
         output.extend(log.line(&line));
         input.extend(line);
         input.push(10);
@@ -601,7 +652,7 @@ fn random_line(generator: &mut Generator, device: &Device) -> (&'static str, Vec
             let length = rng.pick(&[4188, 4188, 4189, 4189, 4189, 4190]);
             let kind = rng.pick(&[SET_CONTROL, RESOURCE_CREATE, RESOURCE_QUEUE]);
             let number = device.places.iter().flatten().next().map_or(1, |stream| stream.number);
-            let frame = independent::frames::frame(kind, number, length - 5);
+            let frame = frames::frame(kind, number, length - 5);
             (
                 "command of 4,188 to 4,190 bytes",
                 line_of(&Act::Command { ticket: rng.word(), frame }),
@@ -646,7 +697,7 @@ fn over_long(generator: &mut Generator, device: &Device) -> (&'static str, Vec<u
         1 => {
             // A command that would fill the line, and more behind it.
             let number = device.places.iter().flatten().next().map_or(1, |stream| stream.number);
-            let longest = independent::frames::frame(SET_CONTROL, number, MOST_DIGITS / 2 - 5);
+            let longest = frames::frame(SET_CONTROL, number, MOST_DIGITS / 2 - 5);
             let mut line = line_of(&Act::Command { ticket: rng.word(), frame: longest });
             line.resize(length, b'0');
             ("over-long, a frame in front", line)

@@ -179,19 +179,59 @@ fn words_are_the_device() {
 }
 
 #[test]
+fn numbers_are_spent_until_a_reset() {
+    let mut decoder = ready();
+    let create = guest::create(7, wire::FORMAT_VP9, "");
+    let spent = [error(wire::RESP_ERR_INVALID_STREAM_ID)];
+    assert_eq!(tell(&mut decoder, &create), spent);
+    decoder.command(3, &guest::queue(7, Input, 1, 40)).unwrap();
+    decoder.command(4, &guest::drain(7)).unwrap();
+    let stopped = [buffer(3, 40, 1), done(4), done(0)];
+    assert_eq!(tell(&mut decoder, &guest::destroy(7)), stopped);
+    // A saved device has its spent numbers too.
+    for decoder in [&mut Decoder::from_words(decoder.table()), &mut decoder] {
+        assert_eq!(tell(decoder, &create), spent);
+        let late = decoder.finish(finish(Input, 1, 0)).unwrap_err();
+        assert_eq!(late, Refusal::UnexpectedReport);
+        assert_eq!(decoder.finish(finish(Input, 1, 4)).unwrap_err(), Refusal::BadFlags);
+        assert_eq!(decoder.drained(7).unwrap_err(), Refusal::UnexpectedReport);
+        decoder.reset();
+        assert_eq!(tell(decoder, &create), [done(0)]);
+    }
+}
+
+#[test]
+fn numbers_end_at_1023() {
+    let mut decoder = Decoder::new();
+    let first_without = wire::STREAM_NUMBERS as u32;
+    assert_eq!(first_without, 1024);
+    let mut create = |stream| tell(&mut decoder, &guest::create(stream, wire::FORMAT_VP9, ""));
+    for stream in [first_without, u32::MAX] {
+        let code = wire::RESP_ERR_INVALID_STREAM_ID;
+        assert_eq!(create(stream), [(0, Response::Error { stream, code })]);
+    }
+    let stream = first_without - 1;
+    assert_eq!(create(stream), [(0, Response::Done { stream })]);
+}
+
+#[test]
 fn words_of_no_device_are_refused() {
-    let mut words = *ready().table();
-    words[511] = 1;
-    let mut decoder = Decoder::from_words(&words);
-    let refused = [
-        decoder.command(1, &guest::drain(7)).unwrap_err(),
-        decoder.finish(finish(Input, 1, 0)).unwrap_err(),
-        decoder.drained(7).unwrap_err(),
-    ];
-    assert_eq!(refused, [Refusal::InvalidTable; 3]);
-    assert_eq!(decoder.table(), &words);
-    decoder.reset();
-    assert_eq!(tell(&mut decoder, &guest::drain(7)), [error(0x0302)]);
+    // Words without use, and the number of the live stream, which is no longer spent.
+    for (word, value) in [(511, 1), (wire::TABLE_WORDS - 1, 1), (4096, 0)] {
+        let mut words = *ready().table();
+        assert_ne!(words[word], value);
+        words[word] = value;
+        let mut decoder = Decoder::from_words(&words);
+        let refused = [
+            decoder.command(1, &guest::drain(7)).unwrap_err(),
+            decoder.finish(finish(Input, 1, 0)).unwrap_err(),
+            decoder.drained(7).unwrap_err(),
+        ];
+        assert_eq!(refused, [Refusal::InvalidTable; 3]);
+        assert_eq!(decoder.table(), &words);
+        decoder.reset();
+        assert_eq!(tell(&mut decoder, &guest::drain(7)), [error(0x0302)]);
+    }
 }
 
 #[test]
@@ -202,6 +242,7 @@ fn slices_of_any_length_are_lent() {
     table[wire::TABLE_WORDS] = 77;
     let frame = guest::create(7, wire::FORMAT_MPEG2, "");
 
+    assert_eq!(wire::TABLE_WORDS, 4160);
     assert_eq!(ffi::fresh(&mut []), 1);
     assert_eq!(ffi::fresh(&mut table[1..wire::TABLE_WORDS]), 1);
     assert_eq!(ffi::command(&mut [], 1, &[], &mut []), outcome(1));
@@ -236,7 +277,10 @@ fn the_room_holds_the_longest_step() {
     let buffers = || (0..16).map(|n| buffer(0, n, 1));
     let expected: Vec<_> = buffers().chain(buffers()).chain([done(4), done(5)]).collect();
     assert_eq!(read(answers), expected);
-    assert_eq!(decoder.table(), Decoder::new().table());
+    // Nothing is left but that number 7 is spent.
+    let mut words = *Decoder::new().table();
+    words[4096] = 1 << 7;
+    assert_eq!(decoder.table(), &words);
 }
 
 #[test]

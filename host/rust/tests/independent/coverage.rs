@@ -10,7 +10,7 @@ use super::random::BAD_TEXT;
 /// Stands for a command of an unknown type or 0x0100.
 pub const UNKNOWN: u32 = QUERY_CAPABILITY;
 
-/// The tests of 01: kind of step, reason, and what it gives.
+/// The tests of 01 and 02: kind of step, reason, and what it gives.
 pub const REASONS: &[(u32, Why, u32)] = &[
     (COMMAND, "answer buffer under 1,056 bytes", 3),
     (COMMAND, "command under 8 bytes", 4),
@@ -25,7 +25,8 @@ pub const REASONS: &[(u32, Why, u32)] = &[
     (DRAINED, "an input still Queued", 5),
     (UNKNOWN, "unknown type or 0x0100", INVALID_OPERATION),
     (STREAM_CREATE, "wrong length", INVALID_PARAMETER),
-    (STREAM_CREATE, "stream live", INVALID_STREAM),
+    (STREAM_CREATE, "number spent", INVALID_STREAM),
+    (STREAM_CREATE, "number above 1,023", INVALID_STREAM),
     (STREAM_CREATE, "input memory type not 0", INVALID_PARAMETER),
     (STREAM_CREATE, "output memory type not 0", INVALID_PARAMETER),
     (STREAM_CREATE, "format outside 0x1000 to 0x1005", INVALID_PARAMETER),
@@ -85,7 +86,7 @@ pub const REASONS: &[(u32, Why, u32)] = &[
 ];
 
 /// The refusals that come before the device's own tests.
-pub const TABLE_SHORT: Why = "table under 4,096 words";
+pub const TABLE_SHORT: Why = "table under 4,160 words";
 pub const TABLE_NOT_VALID: Why = "table not valid";
 
 /// What success answers: 0 where nothing is answered to the step itself.
@@ -165,7 +166,56 @@ const EDGES: &[(&str, u32)] = &[
     ("word 0 of an input queue above 1", 2),
     ("word 0 of an output queue 1", 2),
     ("word 0 of an output queue above 1", 2),
+    ("live number not spent", 2),
+    ("live number 1,024", 2),
+    ("live number 1,024 above a spent one", 2),
+    ("live number of 2^31 or more", 2),
+    ("word 4,128 not 0", 2),
+    ("word 4,159 not 0", 2),
+    (FORGOTTEN, OK_NODATA),
 ];
+
+/// A number to create, on a table that was made fresh amid its steps.
+const FORGOTTEN: Why = "number spent before the table was made fresh";
+
+/// The same of stream numbers, as they are before the step.
+const NUMBER_EDGES: &[(&str, u32)] = &[
+    ("number 0", OK_NODATA),
+    ("number 31", OK_NODATA),
+    ("number 32", OK_NODATA),
+    ("number 1,023", OK_NODATA),
+    ("number 1,024", INVALID_STREAM),
+    ("number 1,024 above a spent one", INVALID_STREAM),
+    ("number 1,024 above one not spent", INVALID_STREAM),
+    ("number of 2^16 or more, its low half under 1,024", INVALID_STREAM),
+    ("number of 2^31 or more", INVALID_STREAM),
+    ("number beside a spent one", OK_NODATA),
+    ("number of a live stream", INVALID_STREAM),
+    ("number of a destroyed stream", INVALID_STREAM),
+    (LATE_FINISH, 5),
+    (LATE_DRAINED, 5),
+];
+
+/// Reports for a destroyed stream that would fit another one.
+const LATE_FINISH: Why = "finish for a destroyed stream, its buffer Queued in another";
+const LATE_DRAINED: Why = "drained for a destroyed stream, another can be drained";
+
+/// A creation's number and another fault of it, both at once: what the first of the two gives.
+const NUMBERS_AT_FAULT: [Why; 3] =
+    ["number of a live stream", "number of a destroyed stream", "number above 1,023"];
+const OTHER_FAULTS: [(Why, u32); 7] = [
+    ("wrong length", INVALID_PARAMETER),
+    ("input memory type not 0", INVALID_STREAM),
+    ("output memory type not 0", INVALID_STREAM),
+    ("format outside 0x1000 to 0x1005", INVALID_STREAM),
+    ("tag without a NUL", INVALID_STREAM),
+    ("bytes before the first NUL that aren't UTF-8", INVALID_STREAM),
+    ("no place", INVALID_STREAM),
+];
+
+/// Lengths of a table beside the edges, and whether they are enough.
+const LENGTHS: [(usize, bool); 5] =
+    [(4095, false), (4096, false), (4159, false), (4160, true), (4161, true)];
 
 /// Deep states, counted after each step on a valid table.
 const DEPTHS: &[Why] = &[
@@ -179,7 +229,12 @@ const DEPTHS: &[Why] = &[
     "one resource number on both queues",
     "1,056 bytes written",
     "drain and buffers answered together",
-    "words behind the first 4,096",
+    "words behind the first 4,160",
+    "a spent number that is not live",
+    "no place, and a number not spent",
+    "200 numbers spent",
+    "all numbers spent, no stream live",
+    "all numbers spent, some streams live",
 ];
 
 /// The counts of a run.
@@ -193,6 +248,18 @@ pub struct Coverage {
     reasons: BTreeMap<(u32, Why), u64>,
     edges: BTreeMap<(Why, u32), u64>,
     depths: BTreeMap<Why, u64>,
+    /// By a creation's number, its one other fault and what is given.
+    faults: BTreeMap<(Why, Why, u32), u64>,
+    /// Good creations, by the reason for which the same number was last refused.
+    after: BTreeMap<Why, u64>,
+    /// Commands and reports for a destroyed stream, by kind of step and what is given.
+    late: BTreeMap<(u32, u32), u64>,
+    /// By kind of step, the table's length and whether it is enough.
+    lengths: BTreeMap<(u32, usize, bool), u64>,
+    /// Of the table at hand: numbers whose creation was refused, with the reason.
+    refused: BTreeMap<u32, Why>,
+    /// Of the table at hand: the numbers that were spent when it was last made fresh.
+    forgotten: Spent,
 }
 
 impl Coverage {
@@ -214,9 +281,103 @@ impl Coverage {
             *self.reasons.entry((kind, why)).or_default() += 1;
         }
         if let Some(edge) = edge {
-            let number = if done.refusal != 0 { done.refusal } else { code };
-            *self.edges.entry((edge, number)).or_default() += 1;
+            let given = if done.refusal != 0 { done.refusal } else { code };
+            self.count_edge(edge, given);
         }
+    }
+
+    fn count_edge(&mut self, edge: Why, given: u32) {
+        *self.edges.entry((edge, given)).or_default() += 1;
+    }
+
+    /// Another table is at hand, or the same one made fresh while these numbers were spent.
+    pub fn start_table(&mut self, forgotten: Spent) {
+        self.refused.clear();
+        self.forgotten = forgotten;
+    }
+
+    /// Counts a step, or making fresh, by the length of its table.
+    pub fn count_length(&mut self, kind: u32, words: usize, enough: bool) {
+        *self.lengths.entry((kind, words, enough)).or_default() += 1;
+    }
+
+    /// Counts a step by its stream number and what that was before the step.
+    pub fn count_number(&mut self, before: &Device, act: &Act, done: &Done) {
+        let given = match done.refusal {
+            0 => types(&done.written).pop().unwrap_or(0),
+            refusal => refusal,
+        };
+        match (before.creation(act), act) {
+            (Some((number, hits)), _) if done.refusal == 0 => {
+                self.count_creation(before, number, &hits, given);
+                self.count_after(number, done.why);
+            }
+            (None, Act::Command { frame, .. }) if before.destroyed(word(frame, 4)) => {
+                *self.late.entry((kind_of(act, done.refusal), given)).or_default() += 1;
+            }
+            (None, Act::Finish(report)) if before.destroyed(report.stream) => {
+                *self.late.entry((FINISH, given)).or_default() += 1;
+                let fits = |of: &Stream| of.has_queued(report.queue_type, report.resource);
+                if before.places.iter().flatten().any(fits) {
+                    self.count_edge(LATE_FINISH, given);
+                }
+            }
+            (None, Act::Drained { stream }) if before.destroyed(*stream) => {
+                *self.late.entry((DRAINED, given)).or_default() += 1;
+                if before.places.iter().flatten().any(Stream::can_be_drained) {
+                    self.count_edge(LATE_DRAINED, given);
+                }
+            }
+            _ => {}
+        }
+    }
+
+    /// Counts a creation by each name of its number, if it has at most one fault besides.
+    fn count_creation(&mut self, before: &Device, number: u32, hits: &[Why], given: u32) {
+        let others: Vec<Why> =
+            OTHER_FAULTS.into_iter().map(|(why, _)| why).filter(|why| hits.contains(why)).collect();
+        for name in self.names(before, number) {
+            match others[..] {
+                [] => self.count_edge(name, given),
+                [other] => *self.faults.entry((name, other, given)).or_default() += 1,
+                _ => {}
+            }
+        }
+    }
+
+    /// Counts a good creation by why the number was refused before it.
+    fn count_after(&mut self, number: u32, why: Option<Why>) {
+        if let Some(why) = why {
+            self.refused.insert(number, why);
+        } else if let Some(why) = self.refused.remove(&number) {
+            *self.after.entry(why).or_default() += 1;
+        }
+    }
+
+    /// What a creation's number is, by all its names.
+    fn names(&self, before: &Device, number: u32) -> impl Iterator<Item = Why> {
+        let spent = |number| before.spent.has(number);
+        let beside = (1024..2048).contains(&number);
+        let names = [
+            (number == 0, "number 0"),
+            (number == 31, "number 31"),
+            (number == 32, "number 32"),
+            (number == 1023, "number 1,023"),
+            (number == 1024, "number 1,024"),
+            (number > 1023, "number above 1,023"),
+            (beside && spent(number - 1024), "number 1,024 above a spent one"),
+            (beside && !spent(number - 1024), "number 1,024 above one not spent"),
+            (
+                number >= 1 << 16 && number & 0xffff < 1024,
+                "number of 2^16 or more, its low half under 1,024",
+            ),
+            (number >= 1 << 31, "number of 2^31 or more"),
+            (spent(number ^ 1), "number beside a spent one"),
+            (before.place_of(number).is_some(), "number of a live stream"),
+            (before.destroyed(number), "number of a destroyed stream"),
+            (self.forgotten.has(number), FORGOTTEN),
+        ];
+        names.into_iter().filter(|name| name.0).map(|name| name.1)
     }
 
     /// Counts the states that the records are in after a step.
@@ -257,6 +418,12 @@ impl Coverage {
         // The last two are then the drain's and the command's own.
         met[9] = types(written).ends_with(&[OK_RESOURCE_QUEUE, OK_NODATA, OK_NODATA]);
         met[10] = behind > 0;
+        let spent = device.spent.count();
+        met[11] = spent > live;
+        met[12] = live == PLACES && spent < NUMBERS;
+        met[13] = spent >= 200;
+        met[14] = spent == NUMBERS && live == 0;
+        met[15] = spent == NUMBERS && live > 0;
         for (depth, met) in DEPTHS.iter().zip(met) {
             *self.depths.entry(depth).or_default() += u64::from(met);
         }
@@ -264,31 +431,16 @@ impl Coverage {
 
     /// Whatever was met fewer than so many times, and whatever should not have been met at all.
     pub fn complaints(&self, least: u64) -> Vec<String> {
-        let mut complaints = Vec::new();
-        let mut ask = |count: u64, what: String| {
-            if count < least {
-                complaints.push(format!("{what}: {count} times, wanted {least}"));
-            }
-        };
-        for (kind, why, number) in self.wanted_reasons() {
-            let count = self.reasons.get(&(kind, why)).copied().unwrap_or(0);
-            ask(count, format!("{}, {why} ({})", name(kind), number_name(number)));
-        }
-        for &(kind, code) in SUCCESSES {
-            let count = self.outcomes.get(&(kind, 0, code)).copied().unwrap_or(0);
-            ask(count, format!("{}, success", name(kind)));
-        }
-        for &(kind, code) in OWED {
-            let count = self.owed.get(&(kind, code)).copied().unwrap_or(0);
-            ask(count, format!("{}, owed ({})", name(kind), number_name(code)));
-        }
-        for (edge, code) in wanted_edges() {
-            let count = self.edges.get(&(edge, code)).copied().unwrap_or(0);
-            ask(count, format!("{edge} ({})", number_name(code)));
-        }
-        for depth in DEPTHS {
-            ask(self.depths.get(depth).copied().unwrap_or(0), depth.to_string());
-        }
+        let mut counts = self.of_lists(self.wanted_reasons());
+        counts.extend(self.of_edges(wanted_edges()));
+        counts.extend(self.of_numbers());
+        counts.extend(self.of_lengths());
+        counts.extend(
+            DEPTHS
+                .iter()
+                .map(|depth| (self.depths.get(depth).copied().unwrap_or(0), depth.to_string())),
+        );
+        let mut complaints = rare(counts, least);
         let mut deny = |kind: u32, number: u32| {
             let (kind, number) = (name(kind), number_name(number));
             complaints.push(format!("{kind}: {number} cannot occur by documents 01 and 02"));
@@ -307,6 +459,73 @@ impl Coverage {
         complaints
     }
 
+    /// What of all this a log shows, with its counts.
+    pub fn of_log(&self) -> Vec<(u64, String)> {
+        let mut counts = self.of_lists(REASONS.iter().copied().filter(|reason| reason.2 != 3));
+        counts.extend(self.of_edges(NUMBER_EDGES.iter().copied()));
+        counts.extend(self.of_numbers());
+        counts
+    }
+
+    /// These reasons, each success and each answer to what was owed, with their counts.
+    fn of_lists(&self, reasons: impl Iterator<Item = (u32, Why, u32)>) -> Vec<(u64, String)> {
+        let mut counts = Vec::new();
+        for (kind, why, number) in reasons {
+            let count = self.reasons.get(&(kind, why)).copied().unwrap_or(0);
+            counts.push((count, format!("{}, {why} ({})", name(kind), number_name(number))));
+        }
+        for &(kind, code) in SUCCESSES {
+            let count = self.outcomes.get(&(kind, 0, code)).copied().unwrap_or(0);
+            counts.push((count, format!("{}, success", name(kind))));
+        }
+        for &(kind, code) in OWED {
+            let count = self.owed.get(&(kind, code)).copied().unwrap_or(0);
+            counts.push((count, format!("{}, owed ({})", name(kind), number_name(code))));
+        }
+        counts
+    }
+
+    fn of_edges(&self, edges: impl Iterator<Item = (Why, u32)>) -> Vec<(u64, String)> {
+        let count = |edge| self.edges.get(&edge).copied().unwrap_or(0);
+        edges.map(|edge| (count(edge), format!("{} ({})", edge.0, number_name(edge.1)))).collect()
+    }
+
+    /// What of the rules of stream numbers is to be met, with its counts: two faults at once, a good
+    /// creation behind a refused one, and steps for a destroyed stream.
+    fn of_numbers(&self) -> Vec<(u64, String)> {
+        let mut counts = Vec::new();
+        for name in NUMBERS_AT_FAULT {
+            for (other, code) in OTHER_FAULTS {
+                let count = self.faults.get(&(name, other, code)).copied().unwrap_or(0);
+                counts.push((count, format!("{name}, {other} ({})", number_name(code))));
+            }
+        }
+        for (why, _) in OTHER_FAULTS {
+            let count = self.after.get(why).copied().unwrap_or(0);
+            counts.push((count, format!("number created after it was refused: {why}")));
+        }
+        for (kind, given) in wanted_late() {
+            let count = self.late.get(&(kind, given)).copied().unwrap_or(0);
+            let given = number_name(given);
+            counts.push((count, format!("{} for a destroyed stream ({given})", name(kind))));
+        }
+        counts
+    }
+
+    /// The tables beside each edge of their length, by kind of step, with their counts.
+    fn of_lengths(&self) -> Vec<(u64, String)> {
+        let mut counts = Vec::new();
+        for kind in [FRESH, COMMAND, FINISH, DRAINED] {
+            for (words, enough) in LENGTHS {
+                let count = self.lengths.get(&(kind, words, enough)).copied().unwrap_or(0);
+                let kind = if kind == COMMAND { "command" } else { name(kind) };
+                let verb = if enough { "taken" } else { "refused" };
+                counts.push((count, format!("{kind}, table of {words} words {verb}")));
+            }
+        }
+        counts
+    }
+
     fn wanted_reasons(&self) -> impl Iterator<Item = (u32, Why, u32)> {
         let of_tables = [COMMAND, FINISH, DRAINED]
             .into_iter()
@@ -315,12 +534,25 @@ impl Coverage {
     }
 }
 
-fn wanted_edges() -> impl Iterator<Item = (Why, u32)> {
-    EDGES.iter().copied().chain(BAD_TEXT.iter().map(|&(edge, _)| (edge, INVALID_PARAMETER)))
+/// What was counted fewer than so many times.
+pub fn rare(counts: Vec<(u64, String)>, least: u64) -> Vec<String> {
+    let rare = counts.into_iter().filter(|&(count, _)| count < least);
+    rare.map(|(count, what)| format!("{what}: {count} times, wanted {least}")).collect()
 }
 
-/// Prints four tables: outcomes by kind of step, answers to what was owed, reasons, and edges and
-/// depths.
+fn wanted_edges() -> impl Iterator<Item = (Why, u32)> {
+    let of_tags = BAD_TEXT.iter().map(|&(edge, _)| (edge, INVALID_PARAMETER));
+    EDGES.iter().chain(NUMBER_EDGES).copied().chain(of_tags)
+}
+
+/// The kinds of step that can come for a destroyed stream, and what is given.
+fn wanted_late() -> impl Iterator<Item = (u32, u32)> {
+    let not_live = REASONS.iter().filter(|&&(_, why, _)| why == "stream not live");
+    not_live.map(|&(kind, _, code)| (kind, code)).chain([(FINISH, 5), (DRAINED, 5)])
+}
+
+/// Prints tables: outcomes by kind of step, answers to what was owed, reasons, stream numbers,
+/// lengths of tables, and edges and depths.
 impl fmt::Display for Coverage {
     fn fmt(&self, out: &mut fmt::Formatter) -> fmt::Result {
         writeln!(out, "{} steps", self.steps)?;
@@ -342,6 +574,10 @@ impl fmt::Display for Coverage {
         for (kind, why, number) in self.wanted_reasons() {
             let count = self.reasons.get(&(kind, why)).copied().unwrap_or(0);
             writeln!(out, "{count:>8}  {} {}, {why}", number_name(number), name(kind))?;
+        }
+        writeln!(out, "\nStream numbers and lengths of tables:")?;
+        for (count, what) in self.of_numbers().into_iter().chain(self.of_lengths()) {
+            writeln!(out, "{count:>8}  {what}")?;
         }
         writeln!(out, "\nEdges and deep states:")?;
         for (edge, code) in wanted_edges() {
@@ -387,6 +623,7 @@ pub fn name(kind: u32) -> &'static str {
         COMMAND => "command refused",
         FINISH => "finish",
         DRAINED => "drained",
+        FRESH => "fresh",
         UNKNOWN => "0x0100 and unknown",
         STREAM_CREATE => "0x0101 create",
         STREAM_DESTROY => "0x0102 destroy",

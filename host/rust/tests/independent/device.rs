@@ -5,10 +5,14 @@
 //! carries 01's reason, so that a run can count which of them were met; `slip` makes a wrong
 //! variant (see `slips`) and is `None` in the device itself.
 
+use std::fmt;
+
 use super::slips::Slip;
 
 pub const PLACES: usize = 8;
 pub const SLOTS: usize = 16;
+/// "Numbers above 1,023 are refused", so that there are so many.
+pub const NUMBERS: usize = 1024;
 /// "One step writes at most 1,056 bytes."
 pub const ROOM: usize = 1056;
 
@@ -30,6 +34,7 @@ pub const SET_CONTROL: u32 = 0x010C;
 pub const COMMAND: u32 = 0;
 pub const FINISH: u32 = 1;
 pub const DRAINED: u32 = 2;
+pub const FRESH: u32 = 3;
 
 pub const OK_NODATA: u32 = 0x0200;
 pub const OK_RESOURCE_QUEUE: u32 = 0x0202;
@@ -71,8 +76,13 @@ pub struct Report {
 #[derive(Clone, Debug, Default, PartialEq, Eq)]
 pub struct Device {
     pub places: [Option<Stream>; PLACES],
+    pub spent: Spent,
     pub slip: Option<Slip>,
 }
+
+/// The spent numbers: "a number whose creation has ever succeeded since the table was made fresh".
+#[derive(Clone, PartialEq, Eq)]
+pub struct Spent([bool; NUMBERS]);
 
 /// "A live stream's record holds its number, coded format, a drain owed or not with its ticket, and
 /// for each queue ..."
@@ -179,7 +189,7 @@ impl Device {
     }
 
     /// The command itself, "first hit answers: unknown type or 0x0100; wrong length; stream not
-    /// live (for 0x0101: live); then each command's own list".
+    /// live (for 0x0101: spent, or above 1,023); then each command's own list".
     fn serve(
         &mut self,
         ticket: u32,
@@ -193,39 +203,29 @@ impl Device {
         if slips(Slip::TypeIn16Bits) {
             kind &= 0xffff;
         }
-        let length = frame.len();
-        let right_length = match kind {
-            STREAM_CREATE => length == 88,
-            STREAM_DESTROY | STREAM_DRAIN => length == 8,
-            RESOURCE_CREATE if slips(Slip::ExactLengthBeforeLive) => {
-                length >= 88 && length as u64 == 88 + 16 * entry_sum(frame, slip)
-            }
-            RESOURCE_CREATE => length >= 88,
-            RESOURCE_QUEUE => length == 64,
-            RESOURCE_DESTROY_ALL | QUEUE_CLEAR | GET_PARAMS => length == 16,
-            SET_PARAMS => length == 120,
-            QUERY_CONTROL if slips(Slip::LongControlQuery) => length >= 16,
-            QUERY_CONTROL | GET_CONTROL => length == 16,
-            SET_CONTROL => length >= 16,
-            _ => return Err(Hit { number: INVALID_OPERATION, why: "unknown type or 0x0100" }),
+        let Some(right_length) = right_length(slip, kind, frame) else {
+            return Err(Hit { number: INVALID_OPERATION, why: "unknown type or 0x0100" });
         };
+        if kind == STREAM_CREATE {
+            self.stream_create(number, frame)?;
+            answers.success(ticket, number);
+            return Ok(());
+        }
         let place = self.place_of(number);
-        let create = kind == STREAM_CREATE;
-        let control = kind >= QUERY_CONTROL;
+        let late = slips(Slip::LateCommandIs0300) && self.destroyed(number);
+        let not_live = if late { INVALID_OPERATION } else { INVALID_STREAM };
+        if slips(Slip::CommandSpends) && right_length {
+            self.spent.add(number);
+        }
         first_hit(
             slip,
             kind,
             &[
                 (!right_length, INVALID_PARAMETER, "wrong length"),
-                (!create && place.is_none(), INVALID_STREAM, "stream not live"),
-                (control, UNSUPPORTED_CONTROL, "unsupported control"),
+                (place.is_none(), not_live, "stream not live"),
+                (kind >= QUERY_CONTROL, UNSUPPORTED_CONTROL, "unsupported control"),
             ],
         )?;
-        if create {
-            self.stream_create(number, place.is_some(), frame)?;
-            answers.success(ticket, number);
-            return Ok(());
-        }
         let Some(place) = place else { return Ok(()) };
         let Some(stream) = self.places[place].as_mut() else {
             return Ok(());
@@ -233,13 +233,15 @@ impl Device {
         match kind {
             STREAM_DESTROY => {
                 stream.stop_all(slip, answers);
-                self.places[place] = None;
-                if slips(Slip::StreamsMoveDown) {
-                    self.places[place..].rotate_left(1);
-                }
+                self.free(place);
             }
             STREAM_DRAIN => return stream.drain(slip, ticket),
-            RESOURCE_CREATE => stream.resource_create(slip, frame)?,
+            RESOURCE_CREATE => {
+                stream.resource_create(slip, frame)?;
+                if slips(Slip::ResourceSpends) {
+                    self.spent.add(word(frame, 12));
+                }
+            }
             RESOURCE_QUEUE => return stream.resource_queue(slip, ticket, frame),
             RESOURCE_DESTROY_ALL => stream.resource_destroy_all(slip, frame)?,
             QUEUE_CLEAR => stream.queue_clear(slip, frame, answers)?,
@@ -251,46 +253,122 @@ impl Device {
         Ok(())
     }
 
-    /// 0x0101.
-    fn stream_create(&mut self, number: u32, live: bool, frame: &[u8]) -> Result<(), Hit> {
-        let slips = |other| self.slip == Some(other);
-        let coded_format = word(frame, 16);
-        let tag = frame.get(24..88).unwrap_or(&[]);
-        let nul = tag.iter().position(|&byte| byte == 0);
-        let name = &tag[..nul.unwrap_or(tag.len())];
-        let mut utf8 = is_utf8(name);
-        match self.slip {
-            Some(Slip::TagBehindNul) => utf8 = is_utf8(tag),
-            Some(Slip::TagSurrogates) => utf8 = is_utf8(&without_surrogates(name)),
-            Some(Slip::TagCutCharacter) => utf8 = utf8_but_cut(name),
-            Some(Slip::EmptyTagRefused) => utf8 &= !name.is_empty(),
-            _ => {}
+    /// 0x0101. "A creation that was refused spends nothing."
+    fn stream_create(&mut self, number: u32, frame: &[u8]) -> Result<(), Hit> {
+        let tests = self.creation_tests(number, frame);
+        let mut served = first_hit(self.slip, STREAM_CREATE, &tests);
+        if self.slip == Some(Slip::DestroyedAskedLast) && self.spent.has(number) {
+            served = served.and(Err(Hit { number: INVALID_STREAM, why: "number spent" }));
         }
-        let mut free = self.places.iter().position(Option::is_none);
-        if slips(Slip::HighestPlace) {
-            free = self.places.iter().rposition(Option::is_none);
+        if let Err(hit) = served {
+            self.spend_though_refused(number, hit);
+            return served;
         }
-        first_hit(
-            self.slip,
-            STREAM_CREATE,
-            &[
-                (live, INVALID_STREAM, "stream live"),
-                (word(frame, 8) != 0, INVALID_PARAMETER, "input memory type not 0"),
-                (word(frame, 12) != 0, INVALID_PARAMETER, "output memory type not 0"),
-                (
-                    !(0x1000..=0x1005).contains(&coded_format),
-                    INVALID_PARAMETER,
-                    "format outside 0x1000 to 0x1005",
-                ),
-                (nul.is_none(), INVALID_PARAMETER, "tag without a NUL"),
-                (!utf8, INVALID_PARAMETER, "bytes before the first NUL that aren't UTF-8"),
-                (free.is_none(), OUT_OF_MEMORY, "no place"),
-            ],
-        )?;
-        if let Some(place) = free {
-            self.places[place] = Some(Stream::new(number, coded_format));
+        if let Some(place) = self.free_place() {
+            self.places[place] = Some(Stream::new(number, word(frame, 16)));
+            self.spend(number);
         }
         Ok(())
+    }
+
+    /// The tests of a creation in their order.
+    fn creation_tests(&self, number: u32, frame: &[u8]) -> [(bool, u32, Why); 9] {
+        let right_length = right_length(self.slip, STREAM_CREATE, frame) == Some(true);
+        let coded_format = word(frame, 16);
+        let (no_nul, not_utf8) = tag_faults(self.slip, frame);
+        [
+            (!right_length, INVALID_PARAMETER, "wrong length"),
+            (self.refused_as_spent(number), INVALID_STREAM, "number spent"),
+            (self.refused_as_high(number), INVALID_STREAM, "number above 1,023"),
+            (word(frame, 8) != 0, INVALID_PARAMETER, "input memory type not 0"),
+            (word(frame, 12) != 0, INVALID_PARAMETER, "output memory type not 0"),
+            (
+                !(0x1000..=0x1005).contains(&coded_format),
+                INVALID_PARAMETER,
+                "format outside 0x1000 to 0x1005",
+            ),
+            (no_nul, INVALID_PARAMETER, "tag without a NUL"),
+            (not_utf8, INVALID_PARAMETER, "bytes before the first NUL that aren't UTF-8"),
+            (self.free_place().is_none(), OUT_OF_MEMORY, "no place"),
+        ]
+    }
+
+    /// The number of a creation with the reason of each of its tests that is hit, not of the first
+    /// alone; none where the step is no creation.
+    pub fn creation(&self, act: &Act) -> Option<(u32, Vec<Why>)> {
+        let Act::Command { frame, .. } = act else { return None };
+        if frame.len() < 8 || word(frame, 0) != STREAM_CREATE {
+            return None;
+        }
+        let number = word(frame, 4);
+        let tests = self.creation_tests(number, frame);
+        Some((number, tests.into_iter().filter(|test| test.0).map(|test| test.2).collect()))
+    }
+
+    /// "A new stream or resource takes the lowest free place."
+    fn free_place(&self) -> Option<usize> {
+        let mut places = self.places.iter();
+        match self.slip {
+            Some(Slip::HighestPlace) => places.rposition(Option::is_none),
+            _ => places.position(Option::is_none),
+        }
+    }
+
+    /// "A number whose creation has ever succeeded since the table was made fresh is refused."
+    fn refused_as_spent(&self, number: u32) -> bool {
+        match self.slip {
+            Some(Slip::OnlyLiveRefused | Slip::DestroyedAskedLast) => {
+                self.place_of(number).is_some()
+            }
+            Some(Slip::OnlyDestroyedRefused) => self.destroyed(number),
+            _ => self.spent.has(number),
+        }
+    }
+
+    /// "Numbers above 1,023 are refused too."
+    fn refused_as_high(&self, number: u32) -> bool {
+        match self.slip {
+            Some(Slip::HighestNumber(highest)) => number > highest,
+            Some(Slip::NumberIn16Bits) => number & 0xffff > 1023,
+            Some(Slip::NumberSigned) => number as i32 > 1023,
+            _ => number > 1023,
+        }
+    }
+
+    /// A creation was refused: only a slip spends its number.
+    fn spend_though_refused(&mut self, number: u32, hit: Hit) {
+        match self.slip {
+            Some(Slip::RefusedSpends(why)) if why == hit.why => self.spent.add(number),
+            Some(Slip::HighSpendsLastBits) if hit.why == "number above 1,023" => {
+                self.spent.add(number % NUMBERS as u32)
+            }
+            _ => {}
+        }
+    }
+
+    /// A creation has succeeded.
+    fn spend(&mut self, number: u32) {
+        match self.slip {
+            Some(Slip::SpentByDestroy) => return,
+            Some(Slip::NeighbourSpent(apart)) => self.spent.add(number ^ apart),
+            Some(Slip::CreationForgetsBeside) => self.spent.keep(|other| other / 32 != number / 32),
+            Some(Slip::CreationForgetsOthers) => self.spent.keep(|other| other / 32 == number / 32),
+            _ => {}
+        }
+        self.spent.add(number);
+    }
+
+    /// Frees a place. Its number stays spent.
+    fn free(&mut self, place: usize) {
+        let Some(stream) = self.places[place].take() else { return };
+        let last = self.places.iter().all(Option::is_none);
+        match self.slip {
+            Some(Slip::StreamsMoveDown) => self.places[place..].rotate_left(1),
+            Some(Slip::DestroyUnspends) => self.spent.keep(|other| other != stream.number),
+            Some(Slip::SpentByDestroy) => self.spent.add(stream.number),
+            Some(Slip::LastDestroyForgets) if last => self.spent = Spent::default(),
+            _ => {}
+        }
     }
 
     /// A finish report: "flags above 3 (6), then 5, then the EOS rule (6)".
@@ -299,7 +377,9 @@ impl Device {
         let slips = |other| slip == Some(other);
         let queue_type = QueueType::of(report.queue_type);
         let input = queue_type == Some(QueueType::Input);
-        let mut stream = self.live(report.stream);
+        let taken = self.takes_late(FINISH, report.stream);
+        let fits = |stream: &Stream| stream.has_queued(report.queue_type, report.resource);
+        let mut stream = self.live(self.reported(FINISH, report.stream, fits));
         let draining = stream.as_ref().is_some_and(|stream| stream.drain.is_some());
         let looked_in = match queue_type {
             Some(QueueType::Input) if slips(Slip::InputReadAsOutput) => Some(QueueType::Output),
@@ -314,7 +394,7 @@ impl Device {
         let tests = [
             (room < ROOM, 3, "answer buffer under 1,056 bytes"),
             (report.flags > ERR + EOS, 6, "flags outside ERR and EOS"),
-            (queued.is_none(), 5, "no buffer now Queued"),
+            (queued.is_none() && !taken, 5, "no buffer now Queued"),
             (eos && input, 6, "EOS on an input"),
             (eos && !draining, 6, "EOS with no drain owed"),
         ];
@@ -349,7 +429,8 @@ impl Device {
     /// Queued".
     pub fn drained(&mut self, number: u32, room: usize) -> Done {
         let slip = self.slip;
-        let stream = self.live(number);
+        let taken = self.takes_late(DRAINED, number);
+        let stream = self.live(self.reported(DRAINED, number, Stream::can_be_drained));
         let draining = stream.as_ref().is_some_and(|stream| stream.drain.is_some());
         let input_queued = stream.as_ref().is_some_and(|stream| {
             stream.input.any_queued()
@@ -357,8 +438,8 @@ impl Device {
         });
         let tests = [
             (room < ROOM, 3, "answer buffer under 1,056 bytes"),
-            (stream.is_none(), 5, "no such stream"),
-            (!draining, 5, "no drain owed"),
+            (stream.is_none() && !taken, 5, "no such stream"),
+            (!draining && !taken, 5, "no drain owed"),
             (input_queued, 5, "an input still Queued"),
         ];
         if let Err(hit) = first_hit(slip, DRAINED, &tests) {
@@ -375,7 +456,27 @@ impl Device {
         Done { refusal: 0, written: answers.bytes, why: None }
     }
 
-    fn place_of(&self, number: u32) -> Option<usize> {
+    /// Whether a slip takes a report for a destroyed stream.
+    fn takes_late(&self, kind: u32, number: u32) -> bool {
+        self.slip == Some(Slip::LateReportTaken(kind)) && self.destroyed(number)
+    }
+
+    /// The number of the stream that a report is for: its own. A slip lets a report for a destroyed
+    /// stream land in another that it fits.
+    fn reported(&self, kind: u32, number: u32, fits: impl Fn(&Stream) -> bool) -> u32 {
+        if self.slip != Some(Slip::LateReportLands(kind)) || !self.destroyed(number) {
+            return number;
+        }
+        let landing = self.places.iter().flatten().find(|stream| fits(stream));
+        landing.map_or(number, |stream| stream.number)
+    }
+
+    /// Whether the number is spent and its stream lives no more.
+    pub fn destroyed(&self, number: u32) -> bool {
+        self.spent.has(number) && self.place_of(number).is_none()
+    }
+
+    pub fn place_of(&self, number: u32) -> Option<usize> {
         self.places
             .iter()
             .position(|place| place.as_ref().is_some_and(|stream| stream.number == number))
@@ -383,6 +484,45 @@ impl Device {
 
     fn live(&mut self, number: u32) -> Option<&mut Stream> {
         self.places.iter_mut().flatten().find(|stream| stream.number == number)
+    }
+}
+
+impl Default for Spent {
+    fn default() -> Spent {
+        Spent([false; NUMBERS])
+    }
+}
+
+impl fmt::Debug for Spent {
+    fn fmt(&self, out: &mut fmt::Formatter) -> fmt::Result {
+        out.debug_set().entries(self.numbers()).finish()
+    }
+}
+
+impl Spent {
+    pub fn has(&self, number: u32) -> bool {
+        self.0.get(number as usize) == Some(&true)
+    }
+
+    /// There is no room for a number above 1,023, which only a slip gets to see.
+    pub fn add(&mut self, number: u32) {
+        if let Some(spent) = self.0.get_mut(number as usize) {
+            *spent = true;
+        }
+    }
+
+    pub fn count(&self) -> usize {
+        self.0.iter().filter(|&&spent| spent).count()
+    }
+
+    pub fn numbers(&self) -> impl Iterator<Item = u32> + '_ {
+        (0..NUMBERS as u32).filter(|&number| self.has(number))
+    }
+
+    pub fn keep(&mut self, kept: impl Fn(u32) -> bool) {
+        for (number, spent) in (0..).zip(&mut self.0) {
+            *spent &= kept(number);
+        }
     }
 }
 
@@ -407,6 +547,22 @@ impl Stream {
             QueueType::Input => &mut self.input,
             QueueType::Output => &mut self.output,
         }
+    }
+
+    /// Whether the buffer that a report names is Queued.
+    pub fn has_queued(&self, queue_type: u32, resource: u32) -> bool {
+        let queue = match QueueType::of(queue_type) {
+            Some(QueueType::Input) => &self.input,
+            Some(QueueType::Output) => &self.output,
+            None => return false,
+        };
+        let mut resources = queue.resources.iter().flatten();
+        resources.any(|found| found.number == resource && found.is_queued())
+    }
+
+    /// Whether a drained report would be taken.
+    pub fn can_be_drained(&self) -> bool {
+        self.drain.is_some() && !self.input.any_queued()
     }
 
     /// The queue that a queue type in a frame names, if it is one.
@@ -822,6 +978,42 @@ impl Answers {
     }
 }
 
+/// Whether a command of this type has a right length; none where the type is unknown or 0x0100.
+fn right_length(slip: Option<Slip>, kind: u32, frame: &[u8]) -> Option<bool> {
+    let length = frame.len();
+    Some(match kind {
+        STREAM_CREATE => length == 88,
+        STREAM_DESTROY | STREAM_DRAIN => length == 8,
+        RESOURCE_CREATE if slip == Some(Slip::ExactLengthBeforeLive) => {
+            length >= 88 && length as u64 == 88 + 16 * entry_sum(frame, slip)
+        }
+        RESOURCE_CREATE => length >= 88,
+        RESOURCE_QUEUE => length == 64,
+        RESOURCE_DESTROY_ALL | QUEUE_CLEAR | GET_PARAMS => length == 16,
+        SET_PARAMS => length == 120,
+        QUERY_CONTROL if slip == Some(Slip::LongControlQuery) => length >= 16,
+        QUERY_CONTROL | GET_CONTROL => length == 16,
+        SET_CONTROL => length >= 16,
+        _ => return None,
+    })
+}
+
+/// Whether the tag of 0x0101 is without a NUL, and whether its bytes before the first one aren't
+/// UTF-8.
+fn tag_faults(slip: Option<Slip>, frame: &[u8]) -> (bool, bool) {
+    let tag = frame.get(24..88).unwrap_or(&[]);
+    let nul = tag.iter().position(|&byte| byte == 0);
+    let name = &tag[..nul.unwrap_or(tag.len())];
+    let utf8 = match slip {
+        Some(Slip::TagBehindNul) => is_utf8(tag),
+        Some(Slip::TagSurrogates) => is_utf8(&without_surrogates(name)),
+        Some(Slip::TagCutCharacter) => utf8_but_cut(name),
+        Some(Slip::EmptyTagRefused) => is_utf8(name) && !name.is_empty(),
+        _ => is_utf8(name),
+    };
+    (nul.is_none(), !utf8)
+}
+
 /// "True sum of the first plane-count entry counts."
 fn entry_sum(frame: &[u8], slip: Option<Slip>) -> u64 {
     let planes = match slip {
@@ -909,6 +1101,11 @@ fn first_hit_with_slip(
         Some(Slip::Last(of, why)) => {
             if let Some(at) = at(of, why) {
                 tests[at..].rotate_left(1);
+            }
+        }
+        Some(Slip::Behind(of, why, other)) => {
+            if let (Some(from), Some(to)) = (at(of, why), at(of, other)) {
+                tests[from..=to].rotate_left(1);
             }
         }
         Some(Slip::Gives(of, why, number)) => {

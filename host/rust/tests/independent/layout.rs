@@ -1,11 +1,15 @@
-//! Records to the table's 4,096 words and back, by docs/LAYOUT.md ("What valid asks"), and not by
-//! the core's own test.
+//! Records and spent numbers to the table's 4,160 words and back, by docs/LAYOUT.md ("What valid
+//! asks"), and not by the core's own test.
 
-use super::device::{Device, Parameters, Queue, QueueType, Resource, State, Stream, PLACES, SLOTS};
+use super::device::*;
 use super::slips::Slip;
 
-pub const WORDS: usize = 4096;
+pub const WORDS: usize = 4160;
 pub const BLOCK: usize = 512;
+/// Where the spent numbers stand, behind the blocks.
+pub const SPENT_AT: usize = 4096;
+/// From here on the table's words have no use.
+pub const BEHIND_AT: usize = 4128;
 /// Where a queue starts in a block.
 pub const INPUT_AT: usize = 8;
 pub const OUTPUT_AT: usize = 92;
@@ -47,10 +51,14 @@ pub enum Broken {
     ResourceTwice,
     /// A stream number stands in two live places.
     StreamTwice,
+    /// The number of a live place is not spent.
+    NotSpent,
+    /// One of words 4,128 to 4,159 is not zero.
+    Behind,
 }
 
 impl Broken {
-    pub const ALL: [Broken; 14] = [
+    pub const ALL: [Broken; 16] = [
         Broken::Live,
         Broken::Vacant,
         Broken::Drain,
@@ -65,6 +73,8 @@ impl Broken {
         Broken::Extent,
         Broken::ResourceTwice,
         Broken::StreamTwice,
+        Broken::NotSpent,
+        Broken::Behind,
     ];
 }
 
@@ -74,8 +84,17 @@ pub fn read(words: &[u32], slip: Option<Slip>) -> Result<Device, Broken> {
     for (place, block) in device.places.iter_mut().zip(words.chunks_exact(BLOCK)) {
         *place = read_place(block, slip)?;
     }
-    let numbers = device.places.iter().flatten().map(|stream| stream.number);
-    ask(!twice(numbers), Broken::StreamTwice, slip)?;
+    device.spent = read_spent(words, slip);
+    let numbers = || device.places.iter().flatten().map(|stream| stream.number);
+    ask(!twice(numbers()), Broken::StreamTwice, slip)?;
+    let asked = if slip == Some(Slip::FirstLiveAsked) { 1 } else { PLACES };
+    let spent = numbers().take(asked).all(|number| taken_as_spent(&device.spent, number, slip));
+    ask(spent, Broken::NotSpent, slip)?;
+    ask(nothing_behind(words, slip), Broken::Behind, slip)?;
+    if slip == Some(Slip::SpentHasToLive) {
+        let live = device.spent.numbers().all(|spent| numbers().any(|number| number == spent));
+        ask(live, Broken::NotSpent, None)?;
+    }
     if slip == Some(Slip::HolesRefused) {
         let holes = device
             .places
@@ -85,6 +104,52 @@ pub fn read(words: &[u32], slip: Option<Slip>) -> Result<Device, Broken> {
         ask(!holes, Broken::FreeSlot, None)?;
     }
     Ok(device)
+}
+
+/// "The number of every live place is spent, so that it is at most 1,023."
+fn taken_as_spent(spent: &Spent, number: u32, slip: Option<Slip>) -> bool {
+    let high = number as usize >= NUMBERS;
+    match slip {
+        Some(Slip::LowLiveTaken) => !high,
+        Some(Slip::HighLiveTaken) => high || spent.has(number),
+        Some(Slip::LiveByLastBits) => spent.has(number % NUMBERS as u32),
+        _ => spent.has(number),
+    }
+}
+
+/// Whether the words behind the spent numbers are zero.
+fn nothing_behind(words: &[u32], slip: Option<Slip>) -> bool {
+    let (before, rest) = match slip {
+        Some(Slip::BehindTaken(at)) => (&words[BEHIND_AT..at], &words[at + 1..WORDS]),
+        _ => words[BEHIND_AT..WORDS].split_at(0),
+    };
+    all_zero(before) && all_zero(rest)
+}
+
+fn read_spent(words: &[u32], slip: Option<Slip>) -> Spent {
+    let mut spent = Spent::default();
+    for number in 0..NUMBERS as u32 {
+        let (at, bit) = bit_of(number, slip);
+        if words[at] >> bit & 1 == 1 {
+            spent.add(number);
+        }
+    }
+    spent
+}
+
+/// The word and the bit of a stream number: "number n is bit n % 32 of word 4,096 + n / 32, the
+/// lowest bit being bit 0".
+pub fn bit_of(number: u32, slip: Option<Slip>) -> (usize, u32) {
+    let (word, bit) = (number / 32, number % 32);
+    let (word, bit) = match slip {
+        Some(Slip::SpentBitsTurned) => (word, 31 - bit),
+        Some(Slip::SpentBytesTurned) => (word, bit ^ 24),
+        Some(Slip::SpentWordsTurned) => (31 - word, bit),
+        Some(Slip::SpentSwapped) => (bit, word),
+        Some(Slip::SpentBehind) => (word + 32, bit),
+        _ => (word, bit),
+    };
+    (SPENT_AT + word as usize, bit)
 }
 
 fn read_place(block: &[u32], slip: Option<Slip>) -> Result<Option<Stream>, Broken> {
@@ -161,13 +226,18 @@ fn read_slot(slot: &[u32], slip: Option<Slip>) -> Result<Option<Resource>, Broke
     Ok(Some(Resource { number, state }))
 }
 
-/// The words of the records. `words` are the table's first 4,096.
+/// The words of the records and the spent numbers. `words` are the table's first 4,160.
 pub fn write(device: &Device, words: &mut [u32]) {
     for (place, block) in device.places.iter().zip(words.chunks_exact_mut(BLOCK)) {
         match place {
             None => block.fill(0),
             Some(stream) => write_place(stream, block),
         }
+    }
+    words[SPENT_AT..].fill(0);
+    for number in device.spent.numbers() {
+        let (at, bit) = bit_of(number, device.slip);
+        words[at] |= 1 << bit;
     }
 }
 
@@ -228,6 +298,7 @@ pub fn without_use(device: &Device) -> Vec<usize> {
         }
         unused.extend(start + TAIL_AT..start + BLOCK);
     }
+    unused.extend(BEHIND_AT..WORDS);
     unused
 }
 

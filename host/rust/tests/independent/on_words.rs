@@ -2,7 +2,7 @@
 //! included.
 
 use super::device::*;
-use super::layout::{self, BLOCK, INPUT_AT, OUTPUT_AT, WORDS};
+use super::layout::{self, BEHIND_AT, BLOCK, INPUT_AT, OUTPUT_AT, SPENT_AT, WORDS};
 use super::slips::Slip;
 
 /// What a step gives back: a refusal number or 0, with the number of bytes written.
@@ -35,11 +35,19 @@ pub struct OnWords(pub Option<Slip>);
 
 impl Core for OnWords {
     fn fresh(&self, table: &mut [u32]) -> u32 {
-        if table.len() < WORDS {
+        if table.len() < needed(self.0, FRESH) {
             return 1;
         }
-        let end = if self.0 == Some(Slip::FreshAllWords) { table.len() } else { WORDS };
-        table[..end].fill(0);
+        let end = match self.0 {
+            Some(Slip::FreshAllWords) => table.len(),
+            Some(Slip::FreshFills(words)) => words,
+            _ => WORDS,
+        };
+        for (at, word) in table.iter_mut().enumerate().take(end) {
+            if self.0 != Some(Slip::FreshKeepsSpent) || !(SPENT_AT..BEHIND_AT).contains(&at) {
+                *word = 0;
+            }
+        }
         0
     }
 
@@ -97,6 +105,14 @@ fn head_named(table: &[u32], frame: &[u8]) -> Option<usize> {
     Some(place * BLOCK + in_block)
 }
 
+/// The words that a table has to have.
+fn needed(slip: Option<Slip>, kind: u32) -> usize {
+    match slip {
+        Some(Slip::Needs(of, words)) if of == kind => words,
+        _ => WORDS,
+    }
+}
+
 /// "Tested 1, 3, 2, then" the step's own.
 fn on_words(
     slip: Option<Slip>,
@@ -106,9 +122,9 @@ fn on_words(
     step: impl FnOnce(&mut Device, usize) -> (u32, Vec<u8>),
 ) -> Outcome {
     let refuse = |refusal| Outcome { refusal, written: 0 };
-    let Some(words) = table.get_mut(..WORDS) else {
+    if table.len() < needed(slip, kind) {
         return refuse(1);
-    };
+    }
     if room.len() < ROOM && !slip.is_some_and(|slip| slip.leaves_room_to_device(kind)) {
         return refuse(3);
     }
@@ -116,14 +132,26 @@ fn on_words(
         Some(Slip::TakenBy(of, rule)) if of == kind => Some(Slip::Taken(rule)),
         _ => slip,
     };
-    let Ok(mut device) = layout::read(words, slip) else {
+    // Only a slip gets here with fewer words.
+    let used = table.len().min(WORDS);
+    let mut words = [0; WORDS];
+    words[..used].copy_from_slice(&table[..used]);
+    let Ok(mut device) = layout::read(&words, slip) else {
         return refuse(2);
     };
+    if slip == Some(Slip::AllWordsAsked) && table[used..].iter().any(|&word| word != 0) {
+        return refuse(2);
+    }
     let (refusal, written) = step(&mut device, room.len());
     if refusal != 0 {
         return refuse(refusal);
     }
-    layout::write(&device, words);
+    if slip == Some(Slip::StepForgets(kind)) {
+        let places = device.clone();
+        device.spent.keep(|number| places.place_of(number).is_some());
+    }
+    layout::write(&device, &mut words);
+    table[..used].copy_from_slice(&words[..used]);
     let count = written.len().min(room.len());
     room[..count].copy_from_slice(&written[..count]);
     if slip == Some(Slip::RoomCleared) {

@@ -1,10 +1,12 @@
 //! Seeded random steps, tables and rooms. The generator looks at the independent device's records
 //! to aim at what is there, so that runs get to full tables, many Queued buffers, drains and
-//! clears, and to both sides of each edge.
+//! clears, many spent numbers, and to both sides of each edge.
 
 use super::device::*;
 use super::frames::{self, put, put_long};
-use super::layout::{self, BLOCK, INPUT_AT, OUTPUT_AT, SLOT, SLOTS_AT, TAIL_AT, WORDS};
+use super::layout::{
+    self, BEHIND_AT, BLOCK, INPUT_AT, OUTPUT_AT, SLOT, SLOTS_AT, SPENT_AT, TAIL_AT, WORDS,
+};
 
 /// SplitMix64: one number of state, every seed good.
 #[derive(Clone, Debug)]
@@ -58,10 +60,28 @@ impl Rng {
     }
 }
 
-/// Few numbers, so that they meet again; on both sides of the sign, and some that are also
-/// something else.
-const STREAMS: [u32; 12] =
-    [0, 1, 2, 3, 5, 7, 0x100, 0x101, 1023, 0x7fff_ffff, 0x8000_0000, 0xffff_ffff];
+/// Stream numbers on both sides of a spent word's ends, and some that are also something else.
+const STREAMS: [u32; 16] = [0, 1, 2, 3, 5, 7, 30, 31, 32, 33, 0x100, 0x101, 511, 512, 1022, 1023];
+/// Numbers that no stream can have, some of which have a low half or last bits that one can have.
+const HIGH_STREAMS: [u32; 16] = [
+    1024,
+    1024,
+    1024,
+    1025,
+    2047,
+    2048,
+    4096,
+    0x0000_ffff,
+    0x0001_0000,
+    0x0001_0005,
+    0x0001_03ff,
+    0x7fff_ffff,
+    0x8000_0000,
+    0x8000_03ff,
+    0xffff_fc00,
+    0xffff_ffff,
+];
+/// Few numbers, so that they meet again; on both sides of the sign.
 const RESOURCES: [u32; 24] = [
     0,
     1,
@@ -108,8 +128,8 @@ pub const ODD_WORDS: [u32; 32] = [
     0x100,
     0x101,
     0x102,
-    256,
-    257,
+    1023,
+    1024,
     0xfff,
     0x1000,
     0x1005,
@@ -127,6 +147,9 @@ const EXTENTS: [u32; 16] =
     [0, 2, 14, 15, 16, 17, 18, 480, 640, 4094, 4095, 4096, 4097, 4098, 0x8000_0010, 0xffff_fffe];
 const BAD_QUEUE_TYPES: [u32; 10] =
     [0, 1, 0xff, 0x102, 0x103, 0x200, 0x0001_0100, 0x0100_0101, 0x8000_0100, 0xffff_ffff];
+const BAD_FORMATS: [u32; 9] =
+    [0, 3, 0x0fff, 0x1006, 0x1007, 0x1100, 0x0001_1000, 0x8000_1000, 0xffff_ffff];
+const BAD_MEMORY_TYPES: [u32; 4] = [1, 2, 0x100, 0x8000_0000];
 const UNKNOWN_TYPES: [u32; 16] = [
     0x0100,
     0x0100,
@@ -260,17 +283,27 @@ pub struct Generator {
     left: usize,
     /// Steps to come, the next one last.
     plan: Vec<Act>,
+    /// Numbers to create again, since the table was made fresh after they were spent.
+    forgotten: Vec<u32>,
 }
 
 impl Generator {
     pub fn new(seed: u64) -> Generator {
-        Generator { rng: Rng::new(seed), edge: None, mood: 0, left: 0, plan: Vec::new() }
+        let rng = Rng::new(seed);
+        Generator { rng, edge: None, mood: 0, left: 0, plan: Vec::new(), forgotten: Vec::new() }
     }
 
-    /// Forgets what was planned, since the table is another one.
-    pub fn start_anew(&mut self) {
+    /// Forgets what was planned, since the table is another one or is made fresh. These numbers were
+    /// spent before.
+    pub fn start_anew(&mut self, forgotten: &Spent) {
         self.plan.clear();
         self.left = 0;
+        self.forgotten = forgotten.numbers().collect();
+    }
+
+    /// Whether the next step is a part of something longer.
+    pub fn has_plan(&self) -> bool {
+        !self.plan.is_empty()
     }
 
     /// The next step for a device with these records.
@@ -282,8 +315,11 @@ impl Generator {
         if self.left == 0 {
             self.mood = self.rng.below(MOODS.len());
             self.left = self.rng.within(10, 100);
-            if self.rng.percent(20) {
-                self.plan_peak(device);
+            match self.rng.below(100) {
+                0..20 => self.plan_peak(device),
+                20..26 => self.plan_spending(device),
+                26..34 => self.plan_late(device),
+                _ => {}
             }
         }
         self.left -= 1;
@@ -337,7 +373,57 @@ impl Generator {
                 return stream.number;
             }
         }
-        self.rng.pick(&STREAMS)
+        self.not_live(device)
+    }
+
+    /// A number that no live stream has, destroyed more often than not.
+    fn not_live(&mut self, device: &Device) -> u32 {
+        match self.rng.below(4) {
+            0 => self.high(device),
+            1 => self.unspent(device),
+            _ => self.destroyed(device),
+        }
+    }
+
+    /// The number of a destroyed stream, if there is one.
+    fn destroyed(&mut self, device: &Device) -> u32 {
+        let destroyed: Vec<u32> =
+            device.spent.numbers().filter(|&number| device.destroyed(number)).collect();
+        if destroyed.is_empty() {
+            return self.unspent(device);
+        }
+        self.rng.pick(&destroyed)
+    }
+
+    /// A number that is not spent, if there is one.
+    fn unspent(&mut self, device: &Device) -> u32 {
+        for _ in 0..8 {
+            let number = match self.rng.below(4) {
+                0 => self.rng.pick(&STREAMS),
+                1 => self.live(device).map_or(1023, |stream| stream.number ^ 1),
+                2 if !self.forgotten.is_empty() => self.rng.pick(&self.forgotten),
+                _ => self.rng.below(NUMBERS) as u32,
+            };
+            if !device.spent.has(number) {
+                return number;
+            }
+        }
+        let rest = all_unspent(device);
+        if rest.is_empty() {
+            return self.rng.below(NUMBERS) as u32;
+        }
+        self.rng.pick(&rest)
+    }
+
+    /// A number above 1,023, at times one with the last bits of a live or destroyed stream's.
+    fn high(&mut self, device: &Device) -> u32 {
+        let above = self.rng.pick(&[1024, 1024, 2048, 0x0001_0000, 0x8000_0000]);
+        match self.rng.below(5) {
+            0 => above + self.live(device).map_or(0, |stream| stream.number),
+            1 => above + device.spent.numbers().next().unwrap_or(0),
+            2 => above + self.rng.below(NUMBERS) as u32,
+            _ => self.rng.pick(&HIGH_STREAMS),
+        }
     }
 
     fn live<'d>(&mut self, device: &'d Device) -> Option<&'d Stream> {
@@ -387,47 +473,74 @@ impl Generator {
     }
 
     fn stream_create(&mut self, device: &Device) -> Vec<u8> {
-        let number =
-            if self.rng.percent(85) { self.absent_stream(device) } else { self.stream(device) };
-        let mut format = 0x1000 + self.rng.below(6) as u32;
+        let number = match self.rng.below(100) {
+            0..60 => self.unspent(device),
+            60..72 => self.live(device).map_or(1, |stream| stream.number),
+            72..86 => self.destroyed(device),
+            _ => self.high(device),
+        };
+        if self.rng.percent(20) {
+            self.plan_again(device, number);
+        }
+        // Two faults at once tell the order of their tests.
+        let faulty = device.spent.has(number) || number as usize >= NUMBERS;
+        if self.rng.percent(if faulty { 65 } else { 35 }) {
+            return self.with_one_fault(number);
+        }
+        let mut format = self.coded_format();
         if self.rng.percent(6) {
-            format = self.rng.pick(&[
-                0,
-                3,
-                0x0fff,
-                0x1006,
-                0x1007,
-                0x1100,
-                0x0001_1000,
-                0x8000_1000,
-                0xffff_ffff,
-            ]);
+            format = self.rng.pick(&BAD_FORMATS);
         }
         let tag = self.tag();
         let mut frame = frames::stream_create(number, format, &tag);
         self.noise(&mut frame[20..24]);
         if self.rng.percent(3) {
-            let odd = self.rng.pick(&[1, 2, 0x100, 0x8000_0000]);
             let at = self.rng.pick(&[8, 12]);
-            put(&mut frame, at, odd);
+            put(&mut frame, at, self.rng.pick(&BAD_MEMORY_TYPES));
         }
         frame
     }
 
-    fn absent_stream(&mut self, device: &Device) -> u32 {
-        for _ in 0..20 {
-            let number = self.rng.pick(&STREAMS);
-            if !device.places.iter().flatten().any(|stream| stream.number == number) {
-                return number;
-            }
+    /// A creation that is good but for one fault, if any, and for its number.
+    fn with_one_fault(&mut self, number: u32) -> Vec<u8> {
+        let mut frame = frames::stream_create(number, self.coded_format(), b"one");
+        match self.rng.below(9) {
+            0 => frame.push(0),
+            1 => put(&mut frame, 8, self.rng.pick(&BAD_MEMORY_TYPES)),
+            2 => put(&mut frame, 12, self.rng.pick(&BAD_MEMORY_TYPES)),
+            3 => put(&mut frame, 16, self.rng.pick(&BAD_FORMATS)),
+            4 => frame[24..].fill(b'n'),
+            5 => frame[24] = 0xff,
+            _ => {}
         }
-        self.rng.word()
+        frame
+    }
+
+    /// After this creation, which may be refused, a good one of the same number and then one more;
+    /// where no place is free, a stream is destroyed first.
+    fn plan_again(&mut self, device: &Device, number: u32) {
+        let mut frames = Vec::from_iter(self.freeing(device));
+        for _ in 0..2 {
+            frames.push(frames::stream_create(number, self.coded_format(), b"again"));
+        }
+        self.plan_frames(frames);
+    }
+
+    /// The destruction of a stream, if no place is free.
+    fn freeing(&mut self, device: &Device) -> Option<Vec<u8>> {
+        let full = device.places.iter().all(Option::is_some);
+        let stream = self.live(device).filter(|_| full)?;
+        Some(frames::frame(STREAM_DESTROY, stream.number, 8))
+    }
+
+    fn coded_format(&mut self) -> u32 {
+        0x1000 + self.rng.below(6) as u32
     }
 
     /// A tag of 64 bytes, good more often than not.
     fn tag(&mut self) -> [u8; 64] {
         let mut tag = [0; 64];
-        match self.rng.below(12) {
+        match self.rng.below(14) {
             0 => {
                 self.edge = Some("tag empty");
                 self.noise(&mut tag[1..]);
@@ -465,7 +578,7 @@ impl Generator {
                     tag[end + cut.len() + 1..].fill(0x80);
                 }
             }
-            5 | 6 => {
+            5..=8 => {
                 let (edge, bad) = self.rng.pick(&BAD_TEXT);
                 self.edge = Some(edge);
                 let at = self.rng.below(63 - bad.len());
@@ -475,13 +588,13 @@ impl Generator {
                     self.letters(&mut tag[at + bad.len()..63]);
                 }
             }
-            7 => {
+            9 => {
                 // Anything with a NUL somewhere.
                 let at = self.rng.below(64);
                 self.rng.fill(&mut tag);
                 tag[at] = 0;
             }
-            8 | 9 => {
+            10 | 11 => {
                 self.edge = Some("tag with characters of each length");
                 let mut at = 0;
                 loop {
@@ -516,7 +629,7 @@ impl Generator {
                 ("0x0104 of 89 bytes on a dead stream", 89),
             ]);
             self.edge = Some(edge);
-            return frames::frame(RESOURCE_CREATE, self.absent_stream(device), length);
+            return frames::frame(RESOURCE_CREATE, self.not_live(device), length);
         }
         let number = self.stream(device);
         let queue_type = self.queue_type();
@@ -778,7 +891,7 @@ impl Generator {
             self.live(device)
         };
         let mut queue_type = self.queue_type();
-        let (mut number, mut resource) = (self.rng.pick(&STREAMS), self.rng.pick(&RESOURCES));
+        let (mut number, mut resource) = (self.not_live(device), self.rng.pick(&RESOURCES));
         if let Some(stream) = stream {
             if self.rng.percent(94) {
                 number = stream.number;
@@ -832,7 +945,7 @@ impl Generator {
             .places
             .iter()
             .flatten()
-            .filter(|stream| stream.drain.is_some() && !stream.input.any_queued())
+            .filter(|stream| stream.can_be_drained())
             .map(|stream| stream.number)
             .collect();
         let stream = if !ready.is_empty() && self.rng.percent(60) {
@@ -900,7 +1013,7 @@ impl Generator {
             |rng: &mut Rng, frame: Vec<u8>| plan.push(Act::Command { ticket: rng.word(), frame });
         let live = self.live(device).cloned();
         let stream = live.unwrap_or_else(|| {
-            let number = self.absent_stream(device);
+            let number = self.unspent(device);
             add(&mut self.rng, frames::stream_create(number, 0x1002, b"peak"));
             Stream::new(number, 0x1002)
         });
@@ -965,16 +1078,80 @@ impl Generator {
         self.plan = plan;
     }
 
+    /// Spends many numbers, one after another, and once in a while all of them; the last few streams
+    /// stay, often as many as there are places.
+    fn plan_spending(&mut self, device: &Device) {
+        let mut numbers = all_unspent(device);
+        if self.rng.percent(50) {
+            self.rng.shuffle(&mut numbers);
+        }
+        if self.rng.percent(98) {
+            numbers.truncate(self.rng.within(5, 50));
+        }
+        let mut frames = Vec::from_iter(self.freeing(device));
+        let stay = self.rng.below(2 * PLACES);
+        for (left, &number) in (0..numbers.len()).rev().zip(&numbers) {
+            frames.push(frames::stream_create(number, self.coded_format(), b""));
+            if left >= stay {
+                frames.push(frames::frame(STREAM_DESTROY, number, 8));
+            }
+        }
+        self.plan_frames(frames);
+    }
+
+    /// A stream is destroyed with a buffer Queued and a drain owed, its number is asked for again,
+    /// and a stream of another number takes the place with the same buffer. Then come a command and
+    /// reports for the old one.
+    fn plan_late(&mut self, device: &Device) {
+        let old = self.unspent(device);
+        let new = all_unspent(device).into_iter().rev().find(|&new| new != old).unwrap_or(0);
+        let (queue_type, resource) = (self.queue_type(), self.rng.pick(&RESOURCES));
+        let mut frames = Vec::from_iter(self.freeing(device));
+        for number in [old, new] {
+            frames.extend([
+                frames::stream_create(number, 0x1001, b"late"),
+                frames::resource_create(number, queue_type, resource, &[1], &[(0, 1)]),
+                frames::resource_queue(number, queue_type, resource, 5, 1),
+                frames::frame(STREAM_DRAIN, number, 8),
+            ]);
+            if number == old {
+                frames.push(frames::frame(STREAM_DESTROY, old, 8));
+                frames.push(frames::stream_create(old, 0x1001, b"late"));
+            }
+        }
+        let kind = self.rng.pick(&[STREAM_DESTROY, STREAM_DRAIN]);
+        frames.push(frames::frame(kind, old, 8));
+        self.plan_frames(frames);
+        let flags = self.rng.below(2) as u32;
+        let report = Report { stream: old, queue_type, resource, flags, timestamp: 6 };
+        self.plan.splice(0..0, [Act::Drained { stream: old }, Act::Finish(report)]);
+    }
+
+    /// Plans commands, the first of which comes next.
+    fn plan_frames(&mut self, frames: Vec<Vec<u8>>) {
+        for frame in frames.into_iter().rev() {
+            let ticket = self.ticket();
+            self.plan.push(Act::Command { ticket, frame });
+        }
+    }
+
     /// Records of a table to lend: any that are valid, with holes and numbers in no order.
     pub fn lent(&mut self) -> Device {
         let mut device = Device::default();
         let streams = self.rng.pick(&[10, 40, 70, 100]);
         let resources = self.rng.pick(&[0, 10, 50, 90, 100]);
         let queued = self.rng.pick(&[0, 30, 60, 100]);
-        let numbers = self.distinct(&STREAMS);
+        let spent = self.rng.pick(&[0, 0, 0, 1, 1, 10, 10, 50, 90, 99, 100]);
+        for number in 0..NUMBERS as u32 {
+            if self.rng.percent(spent) {
+                device.spent.add(number);
+            }
+        }
+        let numbers = self.distinct(&STREAMS, NUMBERS);
         for (place, number) in device.places.iter_mut().zip(numbers) {
             if self.rng.percent(streams) {
-                let coded_format = 0x1000 + self.rng.below(6) as u32;
+                device.spent.add(number);
+                let coded_format = self.coded_format();
                 let mut stream = Stream::new(number, coded_format);
                 stream.drain = self.rng.percent(40).then(|| self.ticket());
                 for queue_type in [QueueType::Input, QueueType::Output] {
@@ -996,7 +1173,7 @@ impl Generator {
     ) -> Queue {
         let (width, height) = (self.extent(), self.extent());
         let rate = self.rng.word();
-        let numbers = self.distinct(&RESOURCES);
+        let numbers = self.distinct(&RESOURCES, 1 << 32);
         let mut queue = Queue {
             parameters: Parameters::left_by_set(queue_type, coded_format, width, height, rate),
             resources: [None; SLOTS],
@@ -1014,11 +1191,11 @@ impl Generator {
         queue
     }
 
-    /// Distinct numbers in any order, mostly from the pool.
-    fn distinct(&mut self, pool: &[u32]) -> Vec<u32> {
+    /// Distinct numbers below a bound in any order, mostly from the pool.
+    fn distinct(&mut self, pool: &[u32], bound: usize) -> Vec<u32> {
         let mut numbers = pool.to_vec();
         for _ in 0..self.rng.below(8) {
-            let number = self.rng.word();
+            let number = self.rng.below(bound) as u32;
             if !numbers.contains(&number) {
                 numbers.push(number);
             }
@@ -1027,17 +1204,17 @@ impl Generator {
         numbers
     }
 
-    /// A table of these records with some words behind the first 4,096, at times.
+    /// A table of these records with some words behind the first 4,160, at times.
     pub fn table(&mut self, device: &Device) -> Vec<u32> {
         let mut table = self.garbage_table(true);
         layout::write(device, &mut table[..WORDS]);
         table
     }
 
-    /// Words of any values; under 4,096 of them only where `enough` is false.
+    /// Words of any values; under 4,160 of them only where `enough` is false.
     pub fn garbage_table(&mut self, enough: bool) -> Vec<u32> {
         let length = match self.rng.below(6) {
-            _ if !enough => self.rng.pick(&[0, 1, 511, 2048, 4094, 4095]),
+            _ if !enough => self.short_length(),
             0 => WORDS + 1,
             1 => WORDS + 512,
             2 => self.rng.within(WORDS, WORDS + 600),
@@ -1046,13 +1223,21 @@ impl Generator {
         (0..length).map(|_| self.rng.word()).collect()
     }
 
+    /// So many words are not enough for a table.
+    pub fn short_length(&mut self) -> usize {
+        let edge = self.rng.pick(&[SPENT_AT - 1, SPENT_AT, WORDS - 1]);
+        let other = self.rng.pick(&[0, 1, 512, BEHIND_AT]);
+        let any = self.rng.below(WORDS);
+        self.rng.pick(&[edge, edge, edge, other, any])
+    }
+
     /// Changes one word of a table; it may still be valid then. Gives the edge, if it is one.
     pub fn spoil(&mut self, table: &mut [u32]) -> Option<&'static str> {
         let block = BLOCK * self.rng.below(PLACES);
         let queue = block + self.rng.pick(&[INPUT_AT, OUTPUT_AT]);
         let slot = |rng: &mut Rng| queue + SLOTS_AT + SLOT * rng.below(SLOTS);
         let odd = self.rng.pick(&ODD_WORDS);
-        match self.rng.below(9) {
+        match self.rng.below(14) {
             0 => table[self.rng.below(WORDS)] = odd,
             1 => table[self.rng.below(WORDS)] ^= 1 << self.rng.below(32),
             2 => table[block + self.rng.below(INPUT_AT)] = odd,
@@ -1064,19 +1249,57 @@ impl Generator {
             }
             6 => table[BLOCK * self.rng.below(PLACES) + 1] = table[block + 1],
             7 => table[block + self.rng.within(TAIL_AT, BLOCK - 1)] = odd,
+            8 => table[self.rng.within(SPENT_AT, BEHIND_AT - 1)] = self.rng.word(),
+            9 => return self.spoil_behind(table),
+            10 | 11 => return self.spoil_number(table),
             _ => return self.spoil_head(table),
         }
         None
     }
 
+    /// Changes a word behind the spent numbers, the first or the last one more often.
+    fn spoil_behind(&mut self, table: &mut [u32]) -> Option<&'static str> {
+        let any = (self.rng.within(BEHIND_AT, WORDS - 1), None);
+        let first = (BEHIND_AT, Some("word 4,128 not 0"));
+        let last = (WORDS - 1, Some("word 4,159 not 0"));
+        let (at, edge) = self.rng.pick(&[first, last, any, any]);
+        table[at] = self.rng.pick(&[1, 2, 0x8000_0000, 0xffff_ffff]);
+        edge
+    }
+
+    /// Makes the number of a live stream one that is not spent: its bit is dropped, or it becomes a
+    /// number above 1,023. Or it becomes any other.
+    fn spoil_number(&mut self, table: &mut [u32]) -> Option<&'static str> {
+        let block = self.live_block(table)?;
+        let number = table[block + 1];
+        let (changed, edge) = match self.rng.below(6) {
+            0 | 1 => {
+                let (at, bit) = layout::bit_of(number, None);
+                table[at] &= !(1 << bit);
+                (number, "live number not spent")
+            }
+            2 => (1024, "live number 1,024"),
+            3 => (number + 1024, "live number 1,024 above a spent one"),
+            4 => (number + (1 << 31), "live number of 2^31 or more"),
+            _ => {
+                table[block + 1] = self.rng.below(NUMBERS) as u32;
+                return None;
+            }
+        };
+        table[block + 1] = changed;
+        Some(edge)
+    }
+
+    /// Where the block of a live stream starts, if there is one.
+    fn live_block(&mut self, table: &[u32]) -> Option<usize> {
+        let blocks = (0..SPENT_AT).step_by(BLOCK);
+        let live: Vec<usize> = blocks.filter(|&block| table[block] == 1).collect();
+        (!live.is_empty()).then(|| self.rng.pick(&live))
+    }
+
     /// Changes word 0 of a queue of a live stream, if there is one.
     fn spoil_head(&mut self, table: &mut [u32]) -> Option<&'static str> {
-        let blocks = (0..WORDS).step_by(BLOCK);
-        let live: Vec<usize> = blocks.filter(|&block| table[block] == 1).collect();
-        if live.is_empty() {
-            return None;
-        }
-        let block = self.rng.pick(&live);
+        let block = self.live_block(table)?;
         let (head, one, above) = self.rng.pick(&HEAD_EDGES);
         if self.rng.percent(50) {
             table[block + head] = 1;
@@ -1094,6 +1317,11 @@ impl Generator {
             self.rng.pick(&[ROOM, ROOM, ROOM, ROOM + 1, 2000])
         }
     }
+}
+
+/// The numbers that are not spent, in ascending order.
+fn all_unspent(device: &Device) -> Vec<u32> {
+    (0..NUMBERS as u32).filter(|&number| !device.spent.has(number)).collect()
 }
 
 /// The queue that a number names; any number but the input's is taken for the output here.

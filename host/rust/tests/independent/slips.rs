@@ -3,7 +3,7 @@
 
 use super::coverage::{OWED, REASONS, SUCCESSES, UNKNOWN};
 use super::device::*;
-use super::layout::Broken;
+use super::layout::{Broken, BEHIND_AT, SPENT_AT, WORDS};
 
 /// One slip. A device has at most one.
 #[derive(Clone, Copy, Debug, PartialEq, Eq)]
@@ -15,6 +15,8 @@ pub enum Slip {
     First(u32, Why),
     /// The test is made after all others of its list.
     Last(u32, Why),
+    /// The test is made after this later one.
+    Behind(u32, Why, Why),
     /// The test gives this number.
     Gives(u32, Why, u32),
 
@@ -116,6 +118,49 @@ pub enum Slip {
     /// The size of an output follows the defaults.
     DefaultPlaneSizes,
 
+    // Of the spent numbers.
+    /// A number may be created again once its stream is destroyed.
+    OnlyLiveRefused,
+    /// A number may be created again while its stream lives.
+    OnlyDestroyedRefused,
+    /// A destroyed stream's number is refused after all other tests, a live one's in its place.
+    DestroyedAskedLast,
+    /// Destroying a stream gives its number back.
+    DestroyUnspends,
+    /// Destroying the last stream gives all numbers back.
+    LastDestroyForgets,
+    /// A number is spent only when its stream is destroyed.
+    SpentByDestroy,
+    /// A creation that is refused for this reason spends its number.
+    RefusedSpends(Why),
+    /// A creation of a number above 1,023 spends the number of its last ten bits.
+    HighSpendsLastBits,
+    /// Any command spends its number.
+    CommandSpends,
+    /// A resource's number is spent as if it were a stream's.
+    ResourceSpends,
+    /// A creation spends the number so far from its own too, which is in the same word or in the one
+    /// beside it.
+    NeighbourSpent(u32),
+    /// A creation gives back the other numbers of its word.
+    CreationForgetsBeside,
+    /// A creation gives back the numbers of all other words.
+    CreationForgetsOthers,
+    /// This kind of step gives back all numbers that are not live.
+    StepForgets(u32),
+    /// Numbers above this one are refused.
+    HighestNumber(u32),
+    /// Only the low half of a number is asked to be at most 1,023.
+    NumberIn16Bits,
+    /// Numbers from 2^31 on are taken for negative ones.
+    NumberSigned,
+    /// A command to a destroyed stream is answered with 0x0300.
+    LateCommandIs0300,
+    /// This kind of report for a destroyed stream is taken in silence.
+    LateReportTaken(u32),
+    /// This kind of report for a destroyed stream is taken for another stream that it fits.
+    LateReportLands(u32),
+
     // Of the table and the room.
     /// A table that breaks this rule is taken.
     Taken(Broken),
@@ -131,17 +176,83 @@ pub enum Slip {
     QueueHeadStopsQueueing,
     /// A clear leaves word 0 of its queue 1.
     ClearSetsQueueHead,
+    /// A live number of at most 1,023 need not be spent.
+    LowLiveTaken,
+    /// A live number above 1,023 is taken.
+    HighLiveTaken,
+    /// A live number is looked up by its last ten bits.
+    LiveByLastBits,
+    /// Only the first live number is asked to be spent.
+    FirstLiveAsked,
+    /// A table with a spent number that is not live is not valid.
+    SpentHasToLive,
+    /// A table is taken whatever this word without use is.
+    BehindTaken(usize),
+    /// The highest bit of a word stands for its lowest number.
+    SpentBitsTurned,
+    /// The bytes of a word stand in the other order.
+    SpentBytesTurned,
+    /// The last word of the spent numbers stands for the lowest ones.
+    SpentWordsTurned,
+    /// Number n is bit n / 32 of word n % 32.
+    SpentSwapped,
+    /// The spent numbers stand where the words have no use.
+    SpentBehind,
     /// A table with a free place before a used one is not valid.
     HolesRefused,
     /// The table's validity is tested before the room.
     TableBeforeRoom,
     /// The room's bytes behind those written are cleared.
     RoomCleared,
-    /// Making fresh clears the words behind the first 4,096.
+    /// This kind of step, or making fresh, refuses a table under so many words.
+    Needs(u32, usize),
+    /// The words behind the first 4,160 have to be zero too.
+    AllWordsAsked,
+    /// Making fresh clears so many words.
+    FreshFills(usize),
+    /// Making fresh leaves the spent numbers.
+    FreshKeepsSpent,
+    /// Making fresh clears the words behind the first 4,160.
     FreshAllWords,
 }
 
 impl Slip {
+    /// Whether it is made on the table's words or the room, so that records and logs do not show it.
+    pub fn of_words(self) -> bool {
+        match self {
+            Slip::Taken(_)
+            | Slip::TakenBy(..)
+            | Slip::QueueHeadTaken(_)
+            | Slip::QueueHeadOf1Taken
+            | Slip::HighQueueHeadTaken
+            | Slip::QueueHeadStopsQueueing
+            | Slip::ClearSetsQueueHead
+            | Slip::StepForgets(_)
+            | Slip::LowLiveTaken
+            | Slip::HighLiveTaken
+            | Slip::LiveByLastBits
+            | Slip::FirstLiveAsked
+            | Slip::SpentHasToLive
+            | Slip::BehindTaken(_)
+            | Slip::SpentBitsTurned
+            | Slip::SpentBytesTurned
+            | Slip::SpentWordsTurned
+            | Slip::SpentSwapped
+            | Slip::SpentBehind
+            | Slip::HolesRefused
+            | Slip::TableBeforeRoom
+            | Slip::RoomCleared
+            | Slip::Needs(..)
+            | Slip::AllWordsAsked
+            | Slip::FreshFills(_)
+            | Slip::FreshKeepsSpent
+            | Slip::FreshAllWords => true,
+            Slip::Skipped(_, why) => why == "answer buffer under 1,056 bytes",
+            Slip::First(_, why) => why == "command under 8 bytes",
+            _ => false,
+        }
+    }
+
     /// The room is tested before the table, and again in the device's own lists; for these slips of
     /// this kind of step only the second test is made.
     pub fn leaves_room_to_device(self, kind: u32) -> bool {
@@ -201,23 +312,76 @@ pub const NAMED: &[Slip] = &[
     Slip::TimestampIn32Bits,
     Slip::HalfSecondStride,
     Slip::DefaultPlaneSizes,
-    Slip::TakenBy(COMMAND, Broken::QueueHead),
-    Slip::TakenBy(FINISH, Broken::QueueHead),
-    Slip::TakenBy(DRAINED, Broken::QueueHead),
+    Slip::OnlyLiveRefused,
+    Slip::OnlyDestroyedRefused,
+    Slip::DestroyedAskedLast,
+    Slip::DestroyUnspends,
+    Slip::LastDestroyForgets,
+    Slip::SpentByDestroy,
+    Slip::HighSpendsLastBits,
+    Slip::CommandSpends,
+    Slip::ResourceSpends,
+    Slip::NeighbourSpent(1),
+    Slip::NeighbourSpent(32),
+    Slip::CreationForgetsBeside,
+    Slip::CreationForgetsOthers,
+    Slip::StepForgets(COMMAND),
+    Slip::StepForgets(FINISH),
+    Slip::StepForgets(DRAINED),
+    Slip::HighestNumber(1022),
+    Slip::HighestNumber(1024),
+    Slip::NumberIn16Bits,
+    Slip::NumberSigned,
+    Slip::LateCommandIs0300,
+    Slip::LateReportTaken(FINISH),
+    Slip::LateReportTaken(DRAINED),
+    Slip::LateReportLands(FINISH),
+    Slip::LateReportLands(DRAINED),
     Slip::QueueHeadTaken(QueueType::Input),
     Slip::QueueHeadTaken(QueueType::Output),
     Slip::QueueHeadOf1Taken,
     Slip::HighQueueHeadTaken,
     Slip::QueueHeadStopsQueueing,
     Slip::ClearSetsQueueHead,
+    Slip::LowLiveTaken,
+    Slip::HighLiveTaken,
+    Slip::LiveByLastBits,
+    Slip::FirstLiveAsked,
+    Slip::SpentHasToLive,
+    Slip::BehindTaken(BEHIND_AT),
+    Slip::BehindTaken(WORDS - 1),
+    Slip::SpentBitsTurned,
+    Slip::SpentBytesTurned,
+    Slip::SpentWordsTurned,
+    Slip::SpentSwapped,
+    Slip::SpentBehind,
     Slip::HolesRefused,
     Slip::TableBeforeRoom,
     Slip::RoomCleared,
+    Slip::AllWordsAsked,
+    Slip::FreshFills(SPENT_AT),
+    Slip::FreshFills(BEHIND_AT),
+    Slip::FreshFills(WORDS - 1),
+    Slip::FreshFills(WORDS + 1),
+    Slip::FreshKeepsSpent,
     Slip::FreshAllWords,
 ];
 
-/// Each rule of a valid table left out, each test left out, some in the wrong order or with a wrong
-/// number, each answer of 0x0200 or 0x0202 with the other of them, and the named ones.
+/// The fields of a creation, by the tests made of them.
+const FIELDS: [Why; 5] = [
+    "input memory type not 0",
+    "output memory type not 0",
+    "format outside 0x1000 to 0x1005",
+    "tag without a NUL",
+    "bytes before the first NUL that aren't UTF-8",
+];
+
+/// The tests of a creation's number.
+const OF_NUMBER: [Why; 2] = ["number spent", "number above 1,023"];
+
+/// Each rule of a valid table left out, for some by one kind of step alone, each test left out, some
+/// in the wrong order or with a wrong number, each answer of 0x0200 or 0x0202 with the other of them,
+/// those of a creation's number and of the table's length, and the named ones.
 pub fn all() -> Vec<Slip> {
     let mut slips: Vec<Slip> = Broken::ALL.into_iter().map(Slip::Taken).collect();
     // Two reasons are left out: the first test of all is no list, and a drained report for no
@@ -229,7 +393,6 @@ pub fn all() -> Vec<Slip> {
     slips.extend([
         Slip::First(COMMAND, "command under 8 bytes"),
         Slip::First(STREAM_DRAIN, "stream not live"),
-        Slip::Last(STREAM_CREATE, "stream live"),
         Slip::First(STREAM_CREATE, "no place"),
         Slip::First(RESOURCE_CREATE, "number present"),
         Slip::First(RESOURCE_CREATE, "no place"),
@@ -256,6 +419,39 @@ pub fn all() -> Vec<Slip> {
     }));
     let plain = SUCCESSES.iter().filter(|&&(_, code)| code == OK_NODATA);
     slips.extend(plain.map(|&(kind, _)| Slip::SuccessOfBufferType(kind)));
+    slips.extend(of_numbers());
+    slips.extend(of_tables());
     slips.extend(NAMED);
+    slips
+}
+
+/// Those of a creation's number: each of its two tests before the length, behind each field and
+/// behind "no place", or with another code, and each other refusal of a creation spending it.
+fn of_numbers() -> Vec<Slip> {
+    let mut slips = Vec::new();
+    for why in OF_NUMBER {
+        slips.push(Slip::First(STREAM_CREATE, why));
+        slips.extend(FIELDS.map(|field| Slip::Behind(STREAM_CREATE, why, field)));
+        slips.push(Slip::Last(STREAM_CREATE, why));
+        slips.extend(
+            [INVALID_OPERATION, OUT_OF_MEMORY, INVALID_PARAMETER]
+                .map(|code| Slip::Gives(STREAM_CREATE, why, code)),
+        );
+    }
+    let others = FIELDS.into_iter().chain(["wrong length", "no place"]);
+    slips.extend(others.map(Slip::RefusedSpends));
+    slips
+}
+
+/// Those of a table's length, and of some rules of a valid table, each in one entry alone.
+fn of_tables() -> Vec<Slip> {
+    let mut slips = Vec::new();
+    for kind in [COMMAND, FINISH, DRAINED] {
+        let rules = [Broken::QueueHead, Broken::NotSpent, Broken::Behind];
+        slips.extend(rules.map(|rule| Slip::TakenBy(kind, rule)));
+    }
+    for kind in [FRESH, COMMAND, FINISH, DRAINED] {
+        slips.extend([SPENT_AT, WORDS - 1, WORDS + 1].map(|words| Slip::Needs(kind, words)));
+    }
     slips
 }
