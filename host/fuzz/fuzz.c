@@ -440,6 +440,7 @@ static void one_step(void)
 		command(op, frame, length);
 		break;
 	case 1:
+		/* one value of 256, so that a run has time to spend numbers before */
 		if (op == 0xf9) {
 			make_fresh();
 			break;

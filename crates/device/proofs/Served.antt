@@ -12,7 +12,7 @@ use Rattle.laws.specs.Stores.{Wrote}
 use Rattle.laws.proofs.Tests.{never, and-right}
 use Rattle.laws.proofs.Lists.{all-getD}
 use Rattle.laws.proofs.Stores.{wrote-none}
-use Rattle.model.specs.Numbers.{streamNumbers}
+use Rattle.model.specs.Numbers.{streamPlaces, streamNumbers}
 use Rattle.model.specs.Device.{Stream, Place, vacant, occupied, Device, recordOf, noPlace, place, spend, putBack}
 use Rattle.model.specs.Answers.{ErrorCode, code, success, failure, responseType}
 use Rattle.model.specs.Replies.{Reply, refuse, reply, fail}
@@ -24,7 +24,7 @@ use Rattle.model.proofs.WellFormed.{GoodPlaces, well-places, not-again}
 use Rattle.model.proofs.Unchanged.{put-back-same}
 use Rattle.model.proofs.Refusals.{command-answers}
 use Rattle.table.specs.Spent.{spentSize, spentWords, decodeSpent}
-use Rattle.table.specs.Blocks.{placeWords, blocks, blocksSize, encode}
+use Rattle.table.specs.Blocks.{placeSize, placeWords, blocks, blocksSize, encode}
 use Rattle.table.specs.Search.{findStream, findVacant, hasAllSlots}
 use Rattle.table.proofs.Theorems.{well-eight, well-sized, well-numbers}
 use Rattle.table.proofs.Bits.{decode-spent}
@@ -124,14 +124,14 @@ module _ {words : List ℕ} {d : Device} (h : Encodes words d) where
 
   -- A new stream is put into the lowest vacant place, and its number is spent
 
-  module _ (n k : ℕ) (k8 : k < 8) (new : recordOf n (d .places) ≡ none) (found : findVacant (d .places) ≡ some k) where
+  module _ (n k : ℕ) (k8 : k < streamPlaces) (new : recordOf n (d .places) ≡ none) (found : findVacant (d .places) ≡ some k) where
     free : VacantAt k (d .places)
     free = vacant-found (d .places) k found
 
     pub stream-added : {numbers ys : List ℕ} (b : Stream)
         → ((s : List Bool) → length s ≡ streamNumbers → part blocksSize spentSize words ≡ spentWords s → numbers ≡ spentWords (spend n s))
-        → (part (512 * k) (512 * k + 512 - 512 * k) (withPart blocksSize spentSize words numbers) ≡ placeWords vacant → ys ≡ placeWords (occupied n b))
-        → withPart (512 * k) (512 * k + 512 - 512 * k) (withPart blocksSize spentSize words numbers) ys ≡ encode (putBack n (some b) d)
+        → (part (placeSize * k) (placeSize * k + placeSize - placeSize * k) (withPart blocksSize spentSize words numbers) ≡ placeWords vacant → ys ≡ placeWords (occupied n b))
+        → withPart (placeSize * k) (placeSize * k + placeSize - placeSize * k) (withPart blocksSize spentSize words numbers) ys ≡ encode (putBack n (some b) d)
     stream-added {numbers} {ys} b spends made =
         let s = spend n (d .spent) in
         let left : withPart blocksSize spentSize words numbers ≡ encode (withSpent s d) =

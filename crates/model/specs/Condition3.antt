@@ -54,8 +54,8 @@ pub record Condition3 (run : Run) (alone : List Step → Run) : Type 0 where
   -- The answer to an accepted queueing or drain was given once, or is pending once.
   pub once : (before later : List Event) (e : Event) → run .events ≡ before ++ e ∷ later → accepted e ≡ true → isNone (awaitedBy (e .step .act)) ≡ false
       → answersTo (length before) 0 [] (run .events) + howMany (ofStep (length before)) (ledgerOf (run .events)) ≡ 1
-  -- After an accepted destruction nothing of its stream from before it is pending. So, by `pendingExactly`, what its record holds at the end is, apart
-  -- from step numbers, what was added after.
+  -- After an accepted destruction nothing of its stream from before it is pending. Nothing is added after it either, since its number is spent
+  -- (`SpentForGood` in Promises).
   pub destroyed : (before later : List Event) (e : Event) (t : ℕ) (f : List ℕ) → run .events ≡ before ++ e ∷ later → e .step .act ≡ command t f
       → field 4 f 0 ≡ 0x0102 → accepted e ≡ true → keep (older (field 4 f 4) (length before)) (ledgerOf (run .events)) ≡ []
 

@@ -161,13 +161,13 @@ rules-test t w = ap₂ (λ (x y : Bool). x && y) (each-test goodPlace t) (each-t
 blocks-test : (t w : List ℕ) → length t ≡ blocksSize → (goodPlaces (placesIn t) && allOf (spentIn (decodeSpent w)) (placesIn t)) && same t (blocks (placesIn t)) ≡ blocksValid w t
 unfolding placeValid blocks blocksValid
 blocks-test t w long =
-    let stands : ℕ → Bool = λ k. placeStands (part (512 * k) 512 t) in
-    let good : ℕ → Bool = λ k. goodPlace (decodePlace (part (512 * k) 512 t)) && placeSpent w (part (512 * k) 512 t) in
-    rw (eq-eqb (length (placesIn t)) 8 (decode-eight t), stands-test t long)
-    (turned (allOf goodPlace (placesIn t)) (distinctPlaces (placesIn t)) (allOf (spentIn (decodeSpent w)) (placesIn t)) (allBelow 8 stands) (distinct (numbersFrom 0 512 8 t))
+    let stands : ℕ → Bool = λ k. placeStands (part (placeSize * k) placeSize t) in
+    let good : ℕ → Bool = λ k. goodPlace (decodePlace (part (placeSize * k) placeSize t)) && placeSpent w (part (placeSize * k) placeSize t) in
+    rw (eq-eqb (length (placesIn t)) streamPlaces (decode-eight t), stands-test t long)
+    (turned (allOf goodPlace (placesIn t)) (distinctPlaces (placesIn t)) (allOf (spentIn (decodeSpent w)) (placesIn t)) (allBelow streamPlaces stands) (distinct (numbersFrom 0 placeSize streamPlaces t))
     (λ e. ap distinct (sym (places-numbers t (placesIn t) (decode-sized t) (decode-eight t) (same-true _ _ (stands-test t long ∙ e)))))
-    ∙ ap (λ (b : Bool). (allBelow 8 stands && b) && distinct (numbersFrom 0 512 8 t)) (rules-test t w)
-    ∙ ap (λ (b : Bool). b && distinct (numbersFrom 0 512 8 t)) (sym (below-both stands good 8)))
+    ∙ ap (λ (b : Bool). (allBelow streamPlaces stands && b) && distinct (numbersFrom 0 placeSize streamPlaces t)) (rules-test t w)
+    ∙ ap (λ (b : Bool). b && distinct (numbersFrom 0 placeSize streamPlaces t)) (sym (below-both stands good streamPlaces)))
 
 -- The used words: the blocks, the spent numbers, and words without use
 

@@ -16,6 +16,7 @@ mod guest;
 mod independent;
 
 use independent::device::{Act, Report};
+use independent::layout::SPENT_AT;
 use independent::on_words::step_on_words;
 use std::env;
 use std::hint::black_box;
@@ -25,9 +26,6 @@ use virtio_video_decoder::QueueType::{Input, Output};
 use virtio_video_decoder::{ffi, wire, QueueType};
 
 type Table = [u32; wire::TABLE_WORDS];
-
-/// Where the words of the spent stream numbers begin (`docs/LAYOUT.md`).
-const SPENT_AT: usize = 4096;
 
 /// A device to start from, and steps that lead back to it, but for spent numbers.
 struct Case {

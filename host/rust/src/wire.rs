@@ -12,7 +12,7 @@ pub const F_RESOURCE_NON_CONTIG: u32 = 1;
 
 /// Command, answered with [`RESP_ERR_INVALID_OPERATION`].
 pub const CMD_QUERY_CAPABILITY: u32 = 0x0100;
-/// Command of 88 bytes. Its success spends the stream's number, one of the [`STREAM_NUMBERS`].
+/// Command of 88 bytes. Its success spends the stream's number, which is below [`STREAM_NUMBERS`].
 pub const CMD_STREAM_CREATE: u32 = 0x0101;
 /// Command of 8 bytes.
 pub const CMD_STREAM_DESTROY: u32 = 0x0102;
@@ -47,7 +47,7 @@ pub const RESP_OK_GET_PARAMS: u32 = 0x0203;
 pub const RESP_ERR_INVALID_OPERATION: u32 = 0x0300;
 /// Error: no place for another stream or resource.
 pub const RESP_ERR_OUT_OF_MEMORY: u32 = 0x0301;
-/// Error: no such stream; or for a creation a number that is spent, or none of the
+/// Error: no such stream; or for a creation a number that is spent, or not below
 /// [`STREAM_NUMBERS`].
 pub const RESP_ERR_INVALID_STREAM_ID: u32 = 0x0302;
 /// Error: no such resource, or for a creation one that is there.

@@ -114,6 +114,34 @@ impl<C: Core + Default> Host<C> {
         assert_eq!(self.drained(7), Err(5));
         assert_eq!(self.table, before);
     }
+
+    /// Every step of stream 7, which is destroyed, comes late: it is answered so, and changes nothing.
+    fn late(&mut self) {
+        let before = self.table.clone();
+        for queue_type in [INPUT, OUTPUT] {
+            for (flags, refusal) in [(0, 5), (1, 5), (2, 5), (3, 5), (4, 6), (u32::MAX, 6)] {
+                assert_eq!(self.finish(7, queue_type, 1, flags, 9), Err(refusal));
+            }
+        }
+        assert_eq!(self.drained(7), Err(5));
+        for command in [
+            frame(STREAM_DESTROY, 7, 8),
+            frame(STREAM_DRAIN, 7, 8),
+            resource_create(7, INPUT, 1, &[1], &[(0, 1)]),
+            resource_queue(7, INPUT, 1, 0, 0),
+            on_queue(RESOURCE_DESTROY_ALL, 7, INPUT),
+            on_queue(QUEUE_CLEAR, 7, OUTPUT),
+            on_queue(GET_PARAMS, 7, OUTPUT),
+            set_params(7, OUTPUT, 3, 64, 64, 0),
+            frame(QUERY_CONTROL, 7, 16),
+            frame(GET_CONTROL, 7, 16),
+            frame(SET_CONTROL, 7, 16),
+            stream_create(7, H264, b"seven"),
+        ] {
+            assert_eq!(self.command(2, &command), error(2, 0x0302, 7));
+        }
+        assert_eq!(self.table, before);
+    }
 }
 
 /// Creations of a number with one fault each, of length, memory types, format and tag.
@@ -675,8 +703,8 @@ cases! {
         }
     }
 
-    /// Each number once, and no ninth place is asked for. Then no creation is left, until the table
-    /// is made fresh.
+    /// Each number once, and no ninth place is asked for: its creation sets bit n % 32 of word
+    /// 4,096 + n / 32 and no other. Then no creation is left, until the table is made fresh.
     fn every_number_once(host: new) {
         let mut spent = [0; 64];
         for number in 0..1024 {
@@ -756,32 +784,6 @@ cases! {
 
     /// What comes late for a destroyed stream meets no stream, now and after all that follows.
     fn late_for_a_destroyed_stream(host: with_stream) {
-        let late = |host: &mut Host<C>| {
-            let before = host.table.clone();
-            for queue_type in [INPUT, OUTPUT] {
-                for (flags, refusal) in [(0, 5), (1, 5), (2, 5), (3, 5), (4, 6), (u32::MAX, 6)] {
-                    assert_eq!(host.finish(7, queue_type, 1, flags, 9), Err(refusal));
-                }
-            }
-            assert_eq!(host.drained(7), Err(5));
-            for command in [
-                frame(STREAM_DESTROY, 7, 8),
-                frame(STREAM_DRAIN, 7, 8),
-                resource_create(7, INPUT, 1, &[1], &[(0, 1)]),
-                resource_queue(7, INPUT, 1, 0, 0),
-                on_queue(RESOURCE_DESTROY_ALL, 7, INPUT),
-                on_queue(QUEUE_CLEAR, 7, OUTPUT),
-                on_queue(GET_PARAMS, 7, OUTPUT),
-                set_params(7, OUTPUT, 3, 64, 64, 0),
-                frame(QUERY_CONTROL, 7, 16),
-                frame(GET_CONTROL, 7, 16),
-                frame(SET_CONTROL, 7, 16),
-                stream_create(7, H264, b"seven"),
-            ] {
-                assert_eq!(host.command(2, &command), error(2, 0x0302, 7));
-            }
-            assert_eq!(host.table, before);
-        };
         for queue_type in [INPUT, OUTPUT] {
             host.resource(queue_type, 1);
             host.queue(10, queue_type, 1, 5);
@@ -791,7 +793,7 @@ cases! {
         let stopped =
             vec![buffer(10, 7, 5, 1), buffer(10, 7, 5, 1), (11, plain.clone()), (12, plain)];
         assert_eq!(host.command(12, &frame(STREAM_DESTROY, 7, 8)), Ok(stopped));
-        late(&mut host);
+        host.late();
         // Another stream stands where it stood, with buffers of the same numbers and a drain.
         host.create([8]);
         for queue_type in [INPUT, OUTPUT] {
@@ -801,10 +803,11 @@ cases! {
             assert_eq!(host.command(13, &queue), Ok(vec![]));
         }
         assert_eq!(host.command(14, &frame(STREAM_DRAIN, 8, 8)), Ok(vec![]));
-        late(&mut host);
+        host.late();
         assert_eq!(host.finish(8, INPUT, 1, 0, 9), Ok(vec![buffer(13, 8, 6, 0)]));
+        host.late();
         assert_eq!(host.drained(8), ok(14, 8));
-        late(&mut host);
+        host.late();
     }
 
     /// Making the table fresh forgets every spent number; nothing else does.
@@ -836,33 +839,6 @@ cases! {
                     assert_eq!(host.command(2, &free), ok(2, 7));
                 }
             }
-        }
-    }
-
-    /// Number n is bit n % 32 of word 4,096 + n / 32. Its creation sets that bit, and nothing else
-    /// changes there until the table is made fresh.
-    fn bit_of_a_number(host: new) {
-        for (number, word, bit) in [
-            (0, 4096, 0x0000_0001),
-            (7, 4096, 0x0000_0080),
-            (31, 4096, 0x8000_0000),
-            (32, 4097, 0x0000_0001),
-            (500, 4111, 0x0010_0000),
-            (991, 4126, 0x8000_0000),
-            (992, 4127, 0x0000_0001),
-            (1023, 4127, 0x8000_0000),
-        ] {
-            assert_eq!(host.core.fresh(&mut host.table), 0);
-            let mut expected = [0; 64];
-            assert_eq!(host.behind(), expected);
-            expected[word - 4096] = bit;
-            host.create([number]);
-            assert_eq!(host.behind(), expected);
-            let import = resource_create(number, INPUT, 3, &[1], &[(0, 1)]);
-            assert_eq!(host.command(2, &import), ok(2, number));
-            assert_eq!(host.behind(), expected);
-            host.destroy(number);
-            assert_eq!(host.behind(), expected);
         }
     }
 

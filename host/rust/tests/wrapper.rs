@@ -201,20 +201,6 @@ fn numbers_are_spent_until_a_reset() {
 }
 
 #[test]
-fn numbers_end_at_1023() {
-    let mut decoder = Decoder::new();
-    let first_without = wire::STREAM_NUMBERS as u32;
-    assert_eq!(first_without, 1024);
-    let mut create = |stream| tell(&mut decoder, &guest::create(stream, wire::FORMAT_VP9, ""));
-    for stream in [first_without, u32::MAX] {
-        let code = wire::RESP_ERR_INVALID_STREAM_ID;
-        assert_eq!(create(stream), [(0, Response::Error { stream, code })]);
-    }
-    let stream = first_without - 1;
-    assert_eq!(create(stream), [(0, Response::Done { stream })]);
-}
-
-#[test]
 fn words_of_no_device_are_refused() {
     // Words without use, and the number of the live stream, which is no longer spent.
     for (word, value) in [(511, 1), (wire::TABLE_WORDS - 1, 1), (4096, 0)] {
