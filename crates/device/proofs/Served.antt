@@ -12,7 +12,7 @@ use Rattle.laws.specs.Stores.{Wrote}
 use Rattle.laws.proofs.Tests.{never, and-right}
 use Rattle.laws.proofs.Lists.{all-getD}
 use Rattle.laws.proofs.Stores.{wrote-none}
-use Rattle.model.specs.Numbers.{streamPlaces, streamNumbers}
+use Rattle.model.specs.Numbers.{streamPlaces}
 use Rattle.model.specs.Device.{Stream, Place, vacant, occupied, Device, recordOf, noPlace, place, spend, putBack}
 use Rattle.model.specs.Answers.{ErrorCode, code, success, failure, responseType}
 use Rattle.model.specs.Replies.{Reply, refuse, reply, fail}
@@ -129,13 +129,13 @@ module _ {words : List ℕ} {d : Device} (h : Encodes words d) where
     free = vacant-found (d .places) k found
 
     pub stream-added : {numbers ys : List ℕ} (b : Stream)
-        → ((s : List Bool) → length s ≡ streamNumbers → part blocksSize spentSize words ≡ spentWords s → numbers ≡ spentWords (spend n s))
+        → numbers ≡ spentWords (spend n (decodeSpent (part blocksSize spentSize words)))
         → (part (placeSize * k) (placeSize * k + placeSize - placeSize * k) (withPart blocksSize spentSize words numbers) ≡ placeWords vacant → ys ≡ placeWords (occupied n b))
         → withPart (placeSize * k) (placeSize * k + placeSize - placeSize * k) (withPart blocksSize spentSize words numbers) ys ≡ encode (putBack n (some b) d)
     stream-added {numbers} {ys} b spends made =
         let s = spend n (d .spent) in
         let left : withPart blocksSize spentSize words numbers ≡ encode (withSpent s d) =
-        spent-lent d sizes eight words numbers s (h .held) (spends (d .spent) (well-numbers d (h .good))) in
+        spent-lent d sizes eight words numbers s (h .held) (λ _. spends ∙ ap (λ (x : List Bool). spentWords (spend n x)) numbers-read) in
         block-lent (withSpent s d) sizes eight _ k k8 left ys (occupied n b) (λ e. made (e ∙ ap placeWords (free .at)))
         ∙ ap encode (sym (vacant-put n k b d free new))
 

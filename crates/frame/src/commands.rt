@@ -22,7 +22,7 @@ pub enum LiveCommand {
     ToQueue(QueueCommand),
 }
 
-// All commands: only a creation is for a stream that is not live.
+// All commands: a creation, or one to a live stream.
 pub enum Command {
     Create,
     Live(LiveCommand),

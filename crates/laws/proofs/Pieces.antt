@@ -16,13 +16,24 @@ use Rattle.laws.proofs.Lists.{no-element, all-append}
 use Rattle.laws.proofs.Parts.{part-after, withPart-after}
 use Rattle.laws.proofs.Same.{same-eq, same-cut}
 
--- of elements that pass the test p a piece has k words
-module _ {A : Type 0} (f : A → List ℕ) (k : ℕ) (p : A → Bool) (len : (x : A) → p x ≡ true → length (f x) ≡ k) where
+-- of elements that pass the test p a piece has k elements
+module _ {A B : Type 0} (f : A → List B) (k : ℕ) (p : A → Bool) (len : (x : A) → p x ≡ true → length (f x) ≡ k) where
   pub pieces-length : (l : List A) → allOf p l ≡ true → length (pieces f l) ≡ k * length l
   unfolding pieces
   pieces-length [] a = sym (mul-zero k)
   pieces-length (x ∷ l) a = omega (arith, length-append (f x) (pieces f l), len x (and-left (p x) _ a), pieces-length l (and-right (p x) _ a), mul-suc k (length l))
 
+  -- elements that are read back from their pieces one by one are read back together
+  pub pieces-read : (g : List B → A) → ((x : A) → p x ≡ true → g (f x) ≡ x) → (l : List A) → allOf p l ≡ true → readPieces g k (length l) (pieces f l) ≡ l
+  unfolding pieces readPieces
+  pieces-read g h [] a = refl
+  pieces-read g h (x ∷ l) a =
+      let this = len x (and-left (p x) _ a) in
+      ap₂ (λ (y : A) (m : List A). y ∷ m)
+      (ap g (take-at (f x) (pieces f l) k this) ∙ h x (and-left (p x) _ a))
+      (ap (readPieces g k (length l)) (drop-at (f x) (pieces f l) k this) ∙ pieces-read g h l (and-right (p x) _ a))
+
+module _ {A : Type 0} (f : A → List ℕ) (k : ℕ) (p : A → Bool) (len : (x : A) → p x ≡ true → length (f x) ≡ k) where
   -- the piece of the element at a place, and the pieces with another element there
   pub pieces-part : (l : List A) → allOf p l ≡ true → (i : ℕ) (d : A) → i < length l → part (k * i) k (pieces f l) ≡ f (getD l i d)
   unfolding pieces
@@ -45,32 +56,22 @@ module _ {A : Type 0} (f : A → List ℕ) (k : ℕ) (p : A → Bool) (len : (x 
       ∙ withPart-after (f x) (pieces f l) k (k * i) k (f y) (len x (and-left (p x) _ a))
       ∙ ap (λ (w : List ℕ). f x ++ w) (pieces-withPart l (and-right (p x) _ a) i y (le-of-suc-le-suc h))
 
-  -- elements that are read back from their pieces one by one are read back together
-  pub pieces-read : (g : List ℕ → A) → ((x : A) → p x ≡ true → g (f x) ≡ x) → (l : List A) → allOf p l ≡ true → readPieces g k (length l) (pieces f l) ≡ l
-  unfolding pieces readPieces
-  pieces-read g h [] a = refl
-  pieces-read g h (x ∷ l) a =
-      let this = len x (and-left (p x) _ a) in
-      ap₂ (λ (y : A) (m : List A). y ∷ m)
-      (ap g (take-at (f x) (pieces f l) k this) ∙ h x (and-left (p x) _ a))
-      (ap (readPieces g k (length l)) (drop-at (f x) (pieces f l) k this) ∙ pieces-read g h l (and-right (p x) _ a))
-
 -- What is read out of pieces
 
-module _ {A : Type 0} (g : List ℕ → A) (k : ℕ) where
-  pub read-length : (n : ℕ) (w : List ℕ) → length (readPieces g k n w) ≡ n
+module _ {A B : Type 0} (g : List B → A) (k : ℕ) where
+  pub read-length : (n : ℕ) (w : List B) → length (readPieces g k n w) ≡ n
   unfolding readPieces
   read-length zero w = refl
   read-length (suc n) w = ap suc (read-length n (drop k w))
 
-  pub read-at : (n : ℕ) (w : List ℕ) (i : ℕ) (d : A) → i < n → getD (readPieces g k n w) i d ≡ g (part (k * i) k w)
+  pub read-at : (n : ℕ) (w : List B) (i : ℕ) (d : A) → i < n → getD (readPieces g k n w) i d ≡ g (part (k * i) k w)
   unfolding readPieces
   read-at zero w i d h = absurd (not-suc-le-zero h)
   read-at (suc n) w zero d h = ap (λ (m : ℕ). g (part m k w)) (sym (mul-zero k))
   read-at (suc n) w (suc i) d h =
       let next : k * suc i ≡ k + k * i = omega (arith, mul-suc k i) in
       read-at n (drop k w) i d (le-of-suc-le-suc h)
-      ∙ ap (λ (x : List ℕ). g (take k x)) (drop-drop (k * i) k w)
+      ∙ ap (λ (x : List B). g (take k x)) (drop-drop (k * i) k w)
       ∙ ap (λ (m : ℕ). g (part m k w)) (sym next)
 
 -- Lists by their places

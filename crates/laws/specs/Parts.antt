@@ -4,7 +4,7 @@ use mathlib.Core.List.{List, [], _∷_, _++_}
 use lib.ListN.{take, drop, replicate}
 
 -- the n elements from a
-abbrev pub part : ℕ → ℕ → List ℕ → List ℕ
+abbrev pub part : {B : Type 0} → ℕ → ℕ → List B → List B
 part a n l = take n (drop a l)
 
 -- l with ys for the n elements from a
@@ -15,13 +15,13 @@ withPart a n l ys = take a l ++ (ys ++ drop n (drop a l))
 unfoldable pub zeros : ℕ → List ℕ
 zeros n = replicate n 0
 
-module _ {A : Type 0} where
+module _ {A B : Type 0} where
   -- the elements written one after the other
-  unfoldable pub pieces : (A → List ℕ) → List A → List ℕ
+  unfoldable pub pieces : (A → List B) → List A → List B
   pieces f [] = []
   pieces f (x ∷ l) = f x ++ pieces f l
 
   -- n elements read out of pieces of k, one after the other
-  unfoldable pub readPieces : (List ℕ → A) → ℕ → ℕ → List ℕ → List A
+  unfoldable pub readPieces : (List B → A) → ℕ → ℕ → List B → List A
   readPieces f k zero l = []
   readPieces f k (suc n) l = f (take k l) ∷ readPieces f k n (drop k l)

@@ -63,7 +63,7 @@ module _ (around : Surroundings) (h : (around .full || around .unusable) ≡ tru
   serve-next (finish m qt r flags ts) = cond-elim StaysNone (ltb 3 flags) (λ _. refl) (λ _. refl)
   serve-next (drained m) = refl
 
--- A step that is not answered 'out of memory' does not depend on the surroundings
+-- A step that is not answered 'out of memory' does not depend on whether all places are taken
 
 abbrev pub tellsFull : Reply → Bool
 tellsFull v = anyOf saysFull (answersIn (bytesOf (v .answers)))

@@ -1,12 +1,12 @@
 -- Laws of the spent numbers.
-use Prim.Native.Nat.{ℕ, zero, suc, _<_, _≤_}
+use Prim.Native.Nat.{ℕ, _<_, _≤_}
 use native.Mathlib.Omega.{arith}
 use mathlib.Core.Path.{_≡_, refl, sym, ap, _∙_, subst}
 use mathlib.Core.Bool.{Bool, true, false}
 use mathlib.Core.Option.{Option, none, some}
-use mathlib.Core.List.{List, [], _∷_}
-use lib.ListN.{length, length-set, length-replicate, replicate, set, getD, getD-replicate, List·getD-eq-default}
-use lib.Seq.{getD-set-same, getD-set-other}
+use mathlib.Core.List.{List}
+use lib.ListN.{length, length-set, length-replicate, replicate, set, getD-replicate, List·getD-eq-default}
+use lib.Seq.{getD-set-same, getD-set-other, set-out, set-getD, set-set}
 use lib.Dec.{eqb, ltb}
 use borrow.Author.Tests.{eqb-true, ltb-true, ltb-false}
 use Rattle.laws.proofs.Tests.{never}
@@ -46,30 +46,15 @@ module _ (n : ℕ) (s : List Bool) where
   -- spent twice is spent once; a number that is not kept cannot be
   pub spend-again : spend n (spend n s) ≡ spend n s
   unfolding spend
-  spend-again = of n s
-    where
-      of : (i : ℕ) (l : List Bool) → set (set l i true) i true ≡ set l i true
-      of i [] = refl
-      of zero (x ∷ l) = refl
-      of (suc i) (x ∷ l) = ap (λ r. x ∷ r) (of i l)
+  spend-again = set-set s n true true
 
   pub spend-beyond : length s ≤ n → spend n s ≡ s
   unfolding spend
-  spend-beyond h = of n s h
-    where
-      of : (i : ℕ) (l : List Bool) → length l ≤ i → set l i true ≡ l
-      of i [] h = refl
-      of zero (x ∷ l) h = absurd (omega (arith, h))
-      of (suc i) (x ∷ l) h = ap (λ r. x ∷ r) (of i l (omega (arith, h)))
+  spend-beyond h = set-out s n true h
 
   pub spend-spent : isSpent n s ≡ true → spend n s ≡ s
   unfolding isSpent spend
-  spend-spent h = of n s h
-    where
-      of : (i : ℕ) (l : List Bool) → getD l i false ≡ true → set l i true ≡ l
-      of i [] h = refl
-      of zero (x ∷ l) h = ap (λ (y : Bool). y ∷ l) (sym h)
-      of (suc i) (x ∷ l) h = ap (λ r. x ∷ r) (of i l h)
+  spend-spent h = ap (λ (b : Bool). set s n b) (sym h) ∙ set-getD s n false
 
 -- no number is spent at first
 pub none-spent : (n : ℕ) → isSpent n (replicate streamNumbers false) ≡ false

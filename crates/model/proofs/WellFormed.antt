@@ -11,7 +11,7 @@ use borrow.Author.Tests.{lt-ltb, ltb-true, eqb-true, eq-eqb, not-true, not-false
 use Rattle.laws.specs.Tests.{within}
 use Rattle.laws.specs.Lists.{allOf, isNone}
 use Rattle.laws.proofs.Tests.{never, both, and-left, and-right}
-use Rattle.laws.proofs.Lists.{decide, cond-elim, eqb-sym, none-is}
+use Rattle.laws.proofs.Lists.{decide, cond-elim, eqb-sym, none-is, all-implied}
 use Rattle.laws.proofs.InOrder.{tests-cases, tests-all}
 use Rattle.field.specs.Field.{field}
 use Rattle.model.specs.Numbers.{streamPlaces, queueSlots, streamNumbers, firstCoded, lastCoded, headerBytes}
@@ -356,7 +356,7 @@ put-good n r ps u g h =
 
 -- Spent numbers
 
--- a number that comes to life was not spent, and so is one of those that are kept
+-- a number that comes to life could be taken, and so is one of those that are kept
 new-usable : (n : ℕ) (d : Device) (a : Act) → isNew (recordOf n (d .places)) (nextOf n d a) ≡ true → n < streamNumbers
 new-usable n d a e =
     decide (ltb n streamNumbers) (λ h. ltb-true n streamNumbers h)
@@ -369,10 +369,9 @@ new-usable n d a e =
     gone h = ap (λ (r : Option Stream). serve (around d n) n r a .next) self ∙ serve-next (around d n) (simp (h, or-true (noPlace (d .places)))) n a
 
 module _ (n : ℕ) (s : List Bool) where
-  spent-keeps : (ps : List Place) → allOf (spentIn s) ps ≡ true → allOf (spentIn (spend n s)) ps ≡ true
-  spent-keeps [] h = refl
-  spent-keeps (vacant ∷ ps) h = spent-keeps ps h
-  spent-keeps (occupied m b ∷ ps) h = both (spend-keeps n s m (and-left (isSpent m s) _ h)) (spent-keeps ps (and-right (isSpent m s) _ h))
+  spent-keeps : (p : Place) → spentIn s p ≡ true → spentIn (spend n s) p ≡ true
+  spent-keeps vacant h = refl
+  spent-keeps (occupied m b) h = spend-keeps n s m h
 
 -- the number of a record that is left is spent: it was, or the record is new
 left-spent : (n : ℕ) (r : Option Stream) (ps : List Place) (s : List Bool) → GoodSpent ps s → (isNew (recordOf n ps) r ≡ true → n < streamNumbers)
@@ -391,7 +390,7 @@ spent-put n r d g new =
     both
     (eq-eqb (length s) streamNumbers (after-length n (recordOf n (d .places)) r (d .spent) ∙ g .size))
     (all-put (spentIn s) n r (left-spent n r (d .places) (d .spent) g new) (d .places)
-    (cond-elim (λ (x : List Bool). allOf (spentIn x) (d .places) ≡ true) (isNew (recordOf n (d .places)) r) (λ _. spent-keeps n (d .spent) (d .places) (g .each)) (λ _. g .each)))
+    (cond-elim (λ (x : List Bool). allOf (spentIn x) (d .places) ≡ true) (isNew (recordOf n (d .places)) r) (λ _. all-implied (spentIn (d .spent)) (spentIn (spend n (d .spent))) (spent-keeps n (d .spent)) (d .places) (g .each)) (λ _. g .each)))
 
 stream-u32 : (a : Act) (n : ℕ) → goodAct a ≡ true → streamOf a ≡ some n → u32 n ≡ true
 unfolding streamOf

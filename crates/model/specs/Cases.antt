@@ -1,4 +1,4 @@
--- How a case is checked on the definitions, the ten cases of document 01 that are to be, and some lines on what no run shows.
+-- How a case is checked on the definitions, the ten cases of document 01 that are to be, three on spent numbers, and some lines on what no run shows.
 use Prim.Native.Nat.{ℕ}
 use mathlib.Core.Bool.{Bool, true, false, _&&_}
 use mathlib.Core.Option.{some}
@@ -156,6 +156,14 @@ tenCases =
 abbrev pub TenCases : Type 0
 TenCases = allOf passes tenCases ≡ true
 
+-- How a stream number is spent: a destroyed stream's is not taken again, a refused creation's is, and the last one is 1,023
+abbrev pub spentCases : List Case
+spentCases =
+    case (askCreate ∷ askDestroy ∷ []) (askCreate gives failsWith 1 0x0302 ∷ [])
+    ∷ case (askBadCreate ∷ []) (askCreate gives successTo 1 ∷ [])
+    ∷ case [] (askCreateOf 1023 gives (1 ∷ 8 ∷ 0x0200 ∷ 1023 ∷ []) ∷ askCreateOf 1024 gives (1 ∷ 8 ∷ 0x0302 ∷ 1024 ∷ []) ∷ [])
+    ∷ []
+
 -- What no run shows: only condition 3 asks whose step it is, what is accepted or 'out of memory', what is pending, and which lists there
 -- are; and no words of a table stand for a queue of fifteen slots or for a number above 32 bits
 
@@ -179,15 +187,8 @@ outputCleared = allPending ++ askClear 8 0x101 ∷ []
 abbrev pub withOutputs : List Slot → Device
 withOutputs s = putBack 7 (some (withQueue output (withSlots s newQueue) (newStream 0x1000))) fresh
 
--- How a stream number is spent: a destroyed stream's is not taken again, a refused creation's is, and the last one is 1,023
-abbrev pub spentCases : List Case
-spentCases =
-    case (askCreate ∷ askDestroy ∷ []) (askCreate gives failsWith 1 0x0302 ∷ [])
-    ∷ case (askBadCreate ∷ []) (askCreate gives successTo 1 ∷ [])
-    ∷ case [] (askCreateOf 1023 gives (1 ∷ 8 ∷ 0x0200 ∷ 1023 ∷ []) ∷ askCreateOf 1024 gives (1 ∷ 8 ∷ 0x0302 ∷ 1024 ∷ []) ∷ [])
-    ∷ []
-
 pub record MoreCases : Type 0 where
+  -- though runs show them too: a wrong rule is then refused by a case
   pub spent-numbers : allOf passes spentCases ≡ true
   -- a command of an unknown type, and a report that is refused, belong to the number in them; a command of 7 bytes belongs to none
   pub owners : map (belongs 7) (
@@ -212,7 +213,7 @@ pub record MoreCases : Type 0 where
   -- by the record the same is pending
   pub record-pending : outstandingIn (recordOf 7 (deviceAfter outputCleared .places)) ≡ outstanding 20 (toBuffer 0x100 9 77) ∷ outstanding 40 toDrain ∷ []
   -- a destruction completes the input, the output, the drain, and then answers itself
-  pub completed-in-order : expectedTickets (noted 7 (ask 5 (0x0102 ∷ 7 ∷ [])) true true) (ledgerLeft allPending) ≡ 20 ∷ 30 ∷ 40 ∷ 5 ∷ []
+  pub completed-in-order : expectedTickets (noted 7 askDestroy true true) (ledgerLeft allPending) ≡ 20 ∷ 30 ∷ 40 ∷ 6 ∷ []
   -- a queue has sixteen slots, and a resource number fits its word
   pub record-rules : map (λ (s : List Slot). wellFormed (withOutputs s)) (replicate 15 free ∷ (resource 0x100000000 created ∷ replicate 15 free) ∷ []) ≡ false ∷ false ∷ []
   -- the lists of condition 3 have finishes of any numbers in the host's types

@@ -1,4 +1,4 @@
--- What each command does to the record of its own stream: document 01, "Guest errors" and "The commands". Of the other streams a command
+-- What each command does to the record of its own stream: document 01, "Guest errors" and "The commands". Besides that record a command
 -- sees only its surroundings, and only a creation looks at them. In each definition c is the request, f its frame, b the stream's record and q
 -- the queue that the frame names.
 use Prim.Native.Nat.{ℕ, zero, suc, _+_, _*_, _/_, _%_, _^_}

@@ -27,7 +27,7 @@ pub data LiveCommand : Type 0 where
   destroy drain control : LiveCommand
   toQueue : QueueCommand → LiveCommand
 
--- all commands: only a creation is for a stream that is not live
+-- all commands: a creation, or one to a live stream
 pub data Command : Type 0 where
   create : Command
   live : LiveCommand → Command

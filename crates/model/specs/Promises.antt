@@ -49,7 +49,7 @@ FullAtEight = (d : Device) (s : Step) → wellFormed d ≡ true → outOfMemoryA
 abbrev pub FreshShort : Layout → Type 0
 FreshShort L = (t : List ℕ) → length t < tableWords → freshen L t ≡ record { refusal = 1; table = t }
 
--- any other is: it is then valid and stands for no stream, and the words behind stay
+-- any other is: it is then valid and stands for no stream and no spent number, and the words behind stay
 pub record FreshStart (L : Layout) (t : List ℕ) : Type 0 where
   pub result : freshen L t .refusal ≡ 0
   pub good : valid L (freshen L t .table) ≡ true

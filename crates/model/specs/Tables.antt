@@ -62,7 +62,7 @@ module _ (L : Layout) where
       let k = hostRefusal (length t) (length room) (valid t) in
       cond (eqb k 0) (carriedOut (perform (L .decode (take tableWords t)) a) t room) (untouched k t room)
 
-  -- refusal 1, or 0 and the words of no stream over the used ones
+  -- refusal 1, or 0 and the words of no stream and no spent number over the used ones
   unfoldable pub freshen : List ℕ → Freshened
   freshen t = cond (ltb (length t) tableWords) (record { refusal = 1; table = t }) (record { refusal = 0; table = L .encode fresh ++ drop tableWords t })
 

@@ -54,7 +54,7 @@ goodDrain (some t) = u32 t
 abbrev pub goodStream : Stream → Bool
 goodStream b = within (b .format) firstCoded lastCoded && (goodDrain (b .draining) && (goodQueue (b .inputs) && goodQueue (b .outputs)))
 
--- vacant, or any number and a record
+-- vacant, or a record and its number, of which `goodSpent` asks more
 abbrev pub goodPlace : Place → Bool
 goodPlace vacant = true
 goodPlace (occupied n b) = u32 n && goodStream b

@@ -5,16 +5,19 @@ use native.Mathlib.Omega.{arith}
 use mathlib.Core.Path.{_≡_, refl, sym, ap, ap₂, _∙_, subst}
 use mathlib.Core.Bool.{Bool, true, false, cond}
 use mathlib.Core.List.{List, [], _∷_, _++_}
-use lib.ListN.{length, take, drop, getD, set, length-append, length-drop, length-set, take-append-drop}
-use lib.Seq.{take-at, drop-at, drop-drop, getD-take, getD-drop, take-set-le, take-set-lt, drop-set-lt, drop-set-add, length-take-le}
-use lib.Dec.{eqb, ltb}
+use lib.ListN.{length, take, drop, getD, set, length-drop, length-set, take-append-drop}
+use lib.Seq.{getD-take, getD-drop, take-set-le, take-set-lt, drop-set-lt, drop-set-add, length-take-le}
+use lib.Dec.{eqb}
 use borrow.Author.Tests.{ltb-true, lt-ltb}
 use Rattle.laws.specs.Lists.{allOf}
-use Rattle.laws.proofs.Tests.{both, and-left, and-right}
+use Rattle.laws.specs.Parts.{pieces, readPieces}
+use Rattle.laws.proofs.Pieces.{pieces-length, pieces-read, read-length, read-at}
+use Rattle.laws.proofs.Tests.{both}
+use Rattle.laws.proofs.Lists.{all-true}
 use Rattle.model.specs.Numbers.{streamNumbers}
 use Rattle.model.specs.Device.{isSpent, spend}
 use Rattle.model.specs.WellFormed.{u32}
-use Rattle.table.specs.Spent.{wordNumbers, spentSize, bitsWord, numberWords, spentWords, bitsOf, decodeSpent, numberBit}
+use Rattle.table.specs.Spent.{wordNumbers, spentSize, bitsWord, spentWords, bitsOf, decodeSpent}
 
 -- A word
 
@@ -88,23 +91,13 @@ bit-fits k w b h l e =
 
 -- The words of the numbers
 
-words-length : (k : ℕ) (s : List Bool) → length (numberWords k s) ≡ k
-unfolding numberWords
-words-length zero s = refl
-words-length (suc k) s = ap suc (words-length k (drop wordNumbers s))
-
-words-at : (k : ℕ) (s : List Bool) (i : ℕ) → i < k → getD (numberWords k s) i 0 ≡ bitsWord (take wordNumbers (drop (wordNumbers * i) s))
-unfolding numberWords
-words-at zero s i h = absurd (not-suc-le-zero h)
-words-at (suc k) s zero h = refl
-words-at (suc k) s (suc i) h =
-    words-at k (drop wordNumbers s) i (le-of-suc-le-suc h)
-    ∙ ap (λ (l : List Bool). bitsWord (take wordNumbers l)) (drop-drop (wordNumbers * i) wordNumbers s ∙ ap (λ (m : ℕ). drop m s) (let next : wordNumbers + wordNumbers * i ≡ wordNumbers * suc i = omega arith in next))
+abbrev numberWords : ℕ → List Bool → List ℕ
+numberWords = readPieces bitsWord wordNumbers
 
 -- the words with one number more that is spent
 words-set : (k : ℕ) (s : List Bool) (i b : ℕ) → length s ≡ wordNumbers * k → i < k → b < wordNumbers → getD s (wordNumbers * i + b) false ≡ false
     → numberWords k (set s (wordNumbers * i + b) true) ≡ set (numberWords k s) i (getD (numberWords k s) i 0 + 2 ^ b)
-unfolding numberWords
+unfolding readPieces
 words-set zero s i b long h l e = absurd (not-suc-le-zero h)
 words-set (suc k) s zero b long h l e =
     let at : wordNumbers * 0 + b ≡ b = omega arith in
@@ -124,7 +117,7 @@ words-set (suc k) s (suc i) b long h l e =
 
 -- words and numbers stand for each other
 read-numbers : (k : ℕ) (s : List Bool) → length s ≡ wordNumbers * k → decodeSpent (numberWords k s) ≡ s
-unfolding numberWords decodeSpent
+unfolding readPieces decodeSpent pieces
 read-numbers zero [] long = refl
 read-numbers zero (x ∷ s) long = absurd (omega (arith, long))
 read-numbers (suc k) s long =
@@ -134,21 +127,8 @@ read-numbers (suc k) s long =
     (read-numbers k (drop wordNumbers s) (omega (arith, length-drop wordNumbers s, long)))
     ∙ take-append-drop wordNumbers s
 
-write-numbers : (w : List ℕ) → allOf u32 w ≡ true → numberWords (length w) (decodeSpent w) ≡ w
-unfolding numberWords decodeSpent u32
-write-numbers [] h = refl
-write-numbers (x ∷ w) h =
-    ap₂ (λ (y : ℕ) (ys : List ℕ). y ∷ ys)
-    (ap bitsWord (take-at (bitsOf wordNumbers x) (decodeSpent w) wordNumbers (bits-length wordNumbers x)) ∙ bits-word wordNumbers x (ltb-true x (2 ^ 32) (and-left (ltb x (2 ^ 32)) _ h)))
-    (ap (numberWords (length w)) (drop-at (bitsOf wordNumbers x) (decodeSpent w) wordNumbers (bits-length wordNumbers x)) ∙ write-numbers w (and-right (ltb x (2 ^ 32)) _ h))
-
-decoded-length : (w : List ℕ) → length (decodeSpent w) ≡ wordNumbers * length w
-unfolding decodeSpent
-decoded-length [] = refl
-decoded-length (x ∷ w) = omega (arith, length-append (bitsOf wordNumbers x) (decodeSpent w), bits-length wordNumbers x, decoded-length w)
-
 words-below : (k : ℕ) (s : List Bool) → length s ≡ wordNumbers * k → allOf u32 (numberWords k s) ≡ true
-unfolding numberWords u32
+unfolding readPieces u32
 words-below zero s long = refl
 words-below (suc k) s long =
     let first : length (take wordNumbers s) ≡ wordNumbers = length-take-le wordNumbers s (omega (arith, long)) in
@@ -158,7 +138,7 @@ words-below (suc k) s long =
 
 pub spent-length : (s : List Bool) → length (spentWords s) ≡ spentSize
 unfolding spentWords
-spent-length s = words-length spentSize s
+spent-length s = read-length bitsWord wordNumbers spentSize s
 
 pub decode-spent : (s : List Bool) → length s ≡ streamNumbers → decodeSpent (spentWords s) ≡ s
 unfolding spentWords
@@ -177,11 +157,18 @@ all-words (x ∷ l) h = both (lt-ltb x (2 ^ 32) (h 0)) (all-words l (λ i. h (su
 -- any words of 32 bits stand for numbers
 module _ (w : List ℕ) (size : length w ≡ spentSize) where
   pub spent-decoded : length (decodeSpent w) ≡ streamNumbers
-  spent-decoded = omega (arith, decoded-length w, size)
+  unfolding decodeSpent
+  spent-decoded = omega (arith, pieces-length (bitsOf wordNumbers) wordNumbers (λ _. true) (λ x _. bits-length wordNumbers x) w (all-true w), size)
 
   pub spent-again : allOf u32 w ≡ true → spentWords (decodeSpent w) ≡ w
-  unfolding spentWords
-  spent-again h = ap (λ (k : ℕ). numberWords k (decodeSpent w)) (sym size) ∙ write-numbers w h
+  unfolding spentWords decodeSpent u32
+  spent-again h =
+      ap (λ (k : ℕ). numberWords k (decodeSpent w)) (sym size)
+      ∙ pieces-read (bitsOf wordNumbers) wordNumbers u32 (λ x _. bits-length wordNumbers x) bitsWord (λ x e. bits-word wordNumbers x (ltb-true x (2 ^ 32) e)) w h
+
+-- the bit of number n in these words
+unfoldable pub numberBit : ℕ → List ℕ → Bool
+numberBit n w = eqb (getD w (n / wordNumbers) 0 / 2 ^ (n % wordNumbers) % 2) 1
 
 module _ (s : List Bool) (long : length s ≡ streamNumbers) (n : ℕ) (h : n < streamNumbers) where
   -- a number's word and bit
@@ -191,7 +178,7 @@ module _ (s : List Bool) (long : length s ≡ streamNumbers) (n : ℕ) (h : n < 
   pub bit-spent : numberBit n (spentWords s) ≡ isSpent n s
   unfolding numberBit spentWords isSpent
   bit-spent =
-      ap (λ (w : ℕ). eqb (w / 2 ^ (n % wordNumbers) % 2) 1) (words-at spentSize s (n / wordNumbers) (omega arith))
+      ap (λ (w : ℕ). eqb (w / 2 ^ (n % wordNumbers) % 2) 1) (read-at bitsWord wordNumbers spentSize s (n / wordNumbers) 0 (omega arith))
       ∙ bit-at (take wordNumbers (drop (wordNumbers * (n / wordNumbers)) s)) (n % wordNumbers)
       ∙ getD-take wordNumbers (drop (wordNumbers * (n / wordNumbers)) s) (n % wordNumbers) false (omega arith)
       ∙ getD-drop (wordNumbers * (n / wordNumbers)) s (n % wordNumbers) false

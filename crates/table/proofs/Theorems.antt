@@ -7,13 +7,13 @@ use mathlib.Core.List.{List, [], _++_}
 use Prim.Native.Nat.{ℕ, zero, suc, _+_, _*_, _/_, _%_, _^_, _<_}
 use native.Mathlib.Nat.{mul-zero, mul-suc}
 use native.Mathlib.Omega.{arith}
-use lib.ListN.{length, replicate, take}
-use lib.Seq.{take-take}
+use lib.ListN.{length, replicate, take, drop, getD}
+use lib.Seq.{take-take, getD-take, getD-drop}
 use lib.Dec.{eqb}
 use borrow.Author.Tests.{eqb-true, ltb-true, lt-ltb}
 use Rattle.laws.specs.Lists.{allOf, same}
 use Rattle.laws.specs.Tests.{within}
-use Rattle.laws.specs.Parts.{zeros, pieces}
+use Rattle.laws.specs.Parts.{zeros, pieces, readPieces}
 use Rattle.laws.proofs.Tests.{both, and-left, and-right, within-bounds}
 use Rattle.laws.proofs.Lists.{all-append, all-implied}
 use Rattle.laws.proofs.Parts.{zeros-append}
@@ -30,12 +30,12 @@ use Rattle.model.proofs.Refusals.{only-listed, no-table-refusal}
 use Rattle.model.proofs.SpentForGood.{spent-for-good}
 use Rattle.model.proofs.Unchanged.{refusal-changes-nothing, error-changes-nothing, keeps-rest, stays-valid, writes-at-most}
 use Rattle.queue.specs.Words.{slotWords, queueWords}
-use Rattle.table.specs.Spent.{spentSize, bitsWord, numberWords, spentWords}
+use Rattle.table.specs.Spent.{wordNumbers, spentSize, bitsWord, spentWords}
 use Rattle.table.specs.Blocks.{drainWords, headWords, placeWords, blocks, blocksSize, unusedSize, behind, encode, decode, layout}
 use Rattle.table.specs.Search.{hasAllSlots}
 use Rattle.table.specs.Promises.{MeetsLaws, ValidExactly, Narrow, SpentBits, FreshIsZero, ConditionThree, TablePromises}
-use Rattle.table.proofs.Bits.{spent-narrow, bit-spent}
-use Rattle.table.proofs.Records.{used-length, decode-device}
+use Rattle.table.proofs.Bits.{spent-narrow, numberBit, bit-spent}
+use Rattle.table.proofs.Records.{used-length, spent-part, decode-device}
 
 -- The two laws
 
@@ -165,7 +165,13 @@ narrow d h =
 -- A number's bit
 
 pub spent-bits : SpentBits
-spent-bits s long n h = bit-spent s long n h
+unfolding numberBit
+spent-bits d h n below =
+    let i : ℕ = n / wordNumbers in
+    let word : getD (encode d) (blocksSize + i) 0 ≡ getD (spentWords (d .spent)) i 0 =
+    sym (getD-take spentSize (drop blocksSize (encode d)) i 0 (omega arith) ∙ getD-drop blocksSize (encode d) i 0)
+    ∙ ap (λ (w : List ℕ). getD w i 0) (spent-part d (well-sized d h) (well-eight d h)) in
+    ap (λ (w : ℕ). eqb (w / 2 ^ (n % wordNumbers) % 2) 1) word ∙ bit-spent (d .spent) (well-numbers d h) n below
 
 -- No streams
 
@@ -182,7 +188,7 @@ vacant-zero (suc n) =
     ∙ ap zeros (let next : 512 + 512 * n ≡ 512 * suc n = omega (arith, mul-suc 512 n) in next)
 
 behind-zero : behind fresh ≡ zeros (spentSize + unusedSize)
-unfolding behind fresh spentWords numberWords bitsWord zeros
+unfolding behind fresh spentWords readPieces bitsWord zeros
 behind-zero = refl
 
 pub fresh-is-zero : FreshIsZero

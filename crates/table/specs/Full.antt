@@ -1,4 +1,4 @@
--- A device with no room left, every number spent and the others at an edge: the rules do not shut it out, and its table is valid.
+-- A device with no room left, every stream number spent, and every other number at an edge: the rules do not shut it out, and its table is valid.
 use Prim.Native.Nat.{ℕ, zero, suc}
 use mathlib.Core.Path.{_≡_}
 use mathlib.Core.Bool.{Bool, true, false, _&&_}

@@ -1,10 +1,11 @@
 -- What is promised of the table's layout and over its tables. Each statement is proved in proofs/Theorems.
-use Prim.Native.Nat.{ℕ, _<_}
+use Prim.Native.Nat.{ℕ, _+_, _/_, _%_, _^_, _<_}
 use mathlib.Core.Path.{_≡_}
-use mathlib.Core.Bool.{Bool, true}
+use mathlib.Core.Bool.{true}
 use mathlib.Core.Logic.{_↔_}
 use mathlib.Core.List.{List}
-use lib.ListN.{length, take}
+use lib.ListN.{take, getD}
+use lib.Dec.{eqb}
 use Rattle.laws.specs.Lists.{allOf}
 use Rattle.laws.specs.Parts.{zeros}
 use Rattle.model.specs.Numbers.{tableWords, streamNumbers}
@@ -13,8 +14,8 @@ use Rattle.model.specs.WellFormed.{u32, wellFormed}
 use Rattle.model.specs.Tables.{Lawful, valid}
 use Rattle.model.specs.Promises.{FreshShort, FreshLong, RefusalChangesNothing, ErrorChangesNothing, KeepsRest, StaysValid, OnlyListed, NoTableRefusal, WritesAtMost, SpentForGood}
 use Rattle.model.specs.Condition3.{OnTables}
-use Rattle.table.specs.Spent.{spentWords, numberBit}
-use Rattle.table.specs.Blocks.{encode, layout}
+use Rattle.table.specs.Spent.{wordNumbers}
+use Rattle.table.specs.Blocks.{blocksSize, encode, layout}
 
 -- it meets the two laws
 abbrev pub MeetsLaws : Type 0
@@ -32,9 +33,11 @@ ValidExactly = (t : List ℕ) → (valid layout t ≡ true) ↔ ((d : Device) ×
 abbrev pub Narrow : Type 0
 Narrow = (d : Device) → wellFormed d ≡ true → allOf u32 (encode d) ≡ true
 
--- number n is bit n % 32 of word n / 32 of the words of the spent numbers
+-- number n is bit n % 32 of word 4,096 + n / 32: 1 where it is spent
 abbrev pub SpentBits : Type 0
-SpentBits = (s : List Bool) → length s ≡ streamNumbers → (n : ℕ) → n < streamNumbers → numberBit n (spentWords s) ≡ isSpent n s
+SpentBits =
+    (d : Device) → wellFormed d ≡ true → (n : ℕ) → n < streamNumbers
+    → eqb (getD (encode d) (blocksSize + n / wordNumbers) 0 / 2 ^ (n % wordNumbers) % 2) 1 ≡ isSpent n (d .spent)
 
 -- the table of no streams and no spent number is all zero
 abbrev pub FreshIsZero : Type 0
@@ -46,7 +49,7 @@ ConditionThree = OnTables layout
 
 -- the promises of model/specs/Promises over the tables of this device, with no layout left open
 pub record TablePromises : Type 0 where
-  -- a short table is not made fresh; any other is, and then stands for no stream
+  -- a short table is not made fresh; any other is, and then stands for no stream and no spent number
   pub freshShort : FreshShort layout
   pub freshLong : FreshLong layout
   -- a refused step changes nothing; an error answer is one answer of 16 bytes, and the table stays

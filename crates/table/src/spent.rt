@@ -1,7 +1,5 @@
 // Functions on the words of the spent numbers.
 ghost use mathlib.Core.Path.{_≡_};
-ghost use mathlib.Core.Bool.{Bool};
-ghost use mathlib.Core.List.{List};
 ghost use Prim.Native.Nat.{_%_, _^_, _<_};
 ghost use lib.ListN.{length};
 ghost use Rattle.model.specs.Numbers.{streamNumbers};
@@ -57,7 +55,7 @@ fn bit_of(number: u32) -> u32
 }
 
 // Whether the bit of a number is set.
-fn bit_set(w: &[u32], number: u32) -> bool
+fn bit_is_set(w: &[u32], number: u32) -> bool
     requires { ⌜ (length (now w) ≡ spentSize) × (number < streamNumbers) ⌝ }
     ensures { λ r. ⌜ r ≡ isSpent number (decodeSpent (now (w .entry))) ⌝ }
 {
@@ -74,15 +72,15 @@ pub fn is_spent(w: &[u32], number: u32) -> bool
     if STREAM_NUMBERS <= number {
         return false;
     }
-    bit_set(w, number)
+    bit_is_set(w, number)
 }
 
 // The number is spent from now on.
 pub fn spend(w: &mut [u32], number: u32)
     requires { ⌜ (length (now w) ≡ spentSize) × (number < streamNumbers) ⌝ }
-    ensures { λ _. ⌜ ((s : List Bool) → length s ≡ streamNumbers → now (w .entry) ≡ spentWords s → now (w .exit) ≡ spentWords (spend number s)) ⌝ }
+    ensures { λ _. ⌜ now (w .exit) ≡ spentWords (spend number (decodeSpent (now (w .entry)))) ⌝ }
 {
-    if bit_set(w, number) {
+    if bit_is_set(w, number) {
         return;
     }
     let at = (number / WORD_NUMBERS) as usize;

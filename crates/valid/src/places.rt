@@ -96,7 +96,7 @@ fn place_spent(b: &[u32], spent: &[u32]) -> bool
     table::is_spent(spent, b[NUMBER])
 }
 
-// Whether 512 words are those of a place that keeps the rules, the number of its stream being spent.
+// Whether a block's words are those of a place that keeps the rules, the number of its stream being spent.
 fn place_valid(b: &[u32], spent: &[u32]) -> bool
     requires { ⌜ (length (now b) ≡ placeSize) × (length (now spent) ≡ spentSize) ⌝ }
     ensures { λ r. ⌜ r ≡ placeValid (now (spent .entry)) (now (b .entry)) ⌝ }

@@ -2,6 +2,7 @@
 use mathlib.Core.Path.{ap, sym, _∙_}
 use mathlib.Core.Option.{some}
 use Prim.Native.Nat.{ℕ}
+use Rattle.model.specs.Numbers.{streamPlaces}
 use Rattle.model.specs.Device.{newStream, putBack}
 use Rattle.model.specs.Frames.{codedFormat}
 use Rattle.model.specs.Answers.{outOfMemory, invalidStream, invalidParameter}
@@ -96,7 +97,7 @@ add-stream-requires c κs =
     let after-place = c .before .before .before in let after-vacant-place = after-place .before .before in
     let else1 = after-vacant-place .before .before .before .before in let after-unusable = else1 .before in
     let start = after-unusable .before .before .before .before .before in
-    (start .pre .0, found-within 8 (after-place .place .given .1) (after-vacant-place .vacant-place .ensures .0), after-unusable .unusable .ensures .0 (else1 .if1 .left))
+    (start .pre .0, found-within streamPlaces (after-place .place .given .1) (after-vacant-place .vacant-place .ensures .0), after-unusable .unusable .ensures .0 (else1 .if1 .left))
 
 put-plain-requires-4 : tie.Need-put-plain-requires-4
 put-plain-requires-4 c κs = search needs

@@ -14,11 +14,11 @@ returns c =
     let w = start .args .w .now in
     sym (none-beyond (start .args .number) (decodeSpent w) (omega (arith, spent-decoded w (start .pre), c .if1 .taken)))
 
-bit-set-requires : tie.Need-bit-set-requires
-bit-set-requires c κs = search needs
+bit-is-set-requires : tie.Need-bit-is-set-requires
+bit-is-set-requires c κs = search needs
 
 returns-2 : tie.Need-returns-2
-returns-2 c = c .bit-set .ensures
+returns-2 c = c .bit-is-set .ensures
 
 pub is-spent-spec : {M : Type 1} → statement M
-is-spent-spec = tie.close (tie.spec returns bit-set-requires returns-2)
+is-spent-spec = tie.close (tie.spec returns bit-is-set-requires returns-2)

@@ -9,20 +9,22 @@ use borrow.Author.Needs.{needs}
 use Rattle.laws.specs.Parts.{part}
 use Rattle.laws.specs.Tests.{allBelow}
 use Rattle.laws.proofs.Tests.{all-none, all-more, all-fails}
+use Rattle.model.specs.Numbers.{streamPlaces}
+use Rattle.table.specs.Blocks.{placeSize}
 use Rattle.valid.specs.Rules.{placeValid}
 use Rattle.valid.proofs.places.places_valid.Statement.{statement}
 use Rattle.valid.proofs.places.places_valid.Tie as tie
 
 abbrev Inv-loop : tie.InvT-loop
-Inv-loop t spent k₀ k = (k ≤ 8) × (allBelow k (λ j. placeValid spent (part (512 * j) 512 t)) ≡ true)
+Inv-loop t spent k₀ k = (k ≤ streamPlaces) × (allBelow k (λ j. placeValid spent (part (placeSize * j) placeSize t)) ≡ true)
 
 abbrev μ-loop : tie.MeasureT-loop
-μ-loop t spent k₀ k = 8 - k
+μ-loop t spent k₀ k = streamPlaces - k
 
 loop-holds : tie.Need-loop-holds Inv-loop μ-loop
 loop-holds c =
     let start = c .before .before in
-    (search needs, all-none (λ j. placeValid (start .args .spent .now) (part (512 * j) 512 (start .args .t .now))))
+    (search needs, all-none (λ j. placeValid (start .args .spent .now) (part (placeSize * j) placeSize (start .args .t .now))))
 
 mul-at : tie.Need-mul-at Inv-loop μ-loop
 mul-at c = search needs
@@ -49,8 +51,8 @@ returns : tie.Need-returns Inv-loop μ-loop
 returns c =
     let after-place-valid = c .before in let at-loop = after-place-valid .before .before .before in let start = at-loop .before .before .before in
     let l = at-loop .loop in
-    let test = after-place-valid .place-valid .ensures ∙ ap (λ (n : ℕ). placeValid (start .args .spent .now) (part (512 * l .k) n (start .args .t .now))) (add-sub-cancel-left (512 * l .k) 512) in
-    sym (all-fails (λ j. placeValid (start .args .spent .now) (part (512 * j) 512 (start .args .t .now))) 8 (l .k) (search needs) (sym test ∙ not-true _ (c .if1 .taken)))
+    let test = after-place-valid .place-valid .ensures ∙ ap (λ (n : ℕ). placeValid (start .args .spent .now) (part (placeSize * l .k) n (start .args .t .now))) (add-sub-cancel-left (placeSize * l .k) placeSize) in
+    sym (all-fails (λ j. placeValid (start .args .spent .now) (part (placeSize * j) placeSize (start .args .t .now))) streamPlaces (l .k) (search needs) (sym test ∙ not-true _ (c .if1 .taken)))
 
 add-k : tie.Need-add-k Inv-loop μ-loop
 add-k c = search needs
@@ -62,13 +64,13 @@ loop-again : tie.Need-loop-again Inv-loop μ-loop
 loop-again c =
     let after-place-valid = c .before in let at-loop = after-place-valid .before .before .before in let start = at-loop .before .before .before in
     let l = at-loop .loop in
-    let test = after-place-valid .place-valid .ensures ∙ ap (λ (n : ℕ). placeValid (start .args .spent .now) (part (512 * l .k) n (start .args .t .now))) (add-sub-cancel-left (512 * l .k) 512) in
-    (search needs, all-more (λ j. placeValid (start .args .spent .now) (part (512 * j) 512 (start .args .t .now))) (l .k) (l .inv .1) (sym test ∙ not-false _ (c .if1 .left)))
+    let test = after-place-valid .place-valid .ensures ∙ ap (λ (n : ℕ). placeValid (start .args .spent .now) (part (placeSize * l .k) n (start .args .t .now))) (add-sub-cancel-left (placeSize * l .k) placeSize) in
+    (search needs, all-more (λ j. placeValid (start .args .spent .now) (part (placeSize * j) placeSize (start .args .t .now))) (l .k) (l .inv .1) (sym test ∙ not-false _ (c .if1 .left)))
 
 returns-2 : tie.Need-returns-2 Inv-loop μ-loop
 returns-2 c =
     let l = c .before .loop in
-    let end : l .k ≡ 8 = omega (arith, c .loop-test .left) in
+    let end : l .k ≡ streamPlaces = omega (arith, c .loop-test .left) in
     sym (rw end at (l .inv .1))
 
 pub places-valid-spec : {M : Type 1} → statement M

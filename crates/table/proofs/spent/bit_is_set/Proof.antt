@@ -1,4 +1,4 @@
--- `table::spent::bit_set` meets its contract.
+-- `table::spent::bit_is_set` meets its contract.
 use mathlib.Core.Path.{sym, ap, _∙_, subst}
 use Prim.Native.Nat.{ℕ, _/_, _%_, _<_}
 use native.Mathlib.Nat.{one-le-pow}
@@ -6,10 +6,10 @@ use native.Mathlib.Omega.{arith}
 use lib.ListN.{getD}
 use lib.Dec.{eqb}
 use borrow.Author.Needs.{needs}
-use Rattle.table.specs.Spent.{wordNumbers, numberBit}
-use Rattle.table.proofs.Bits.{bit-decoded}
-use Rattle.table.proofs.spent.bit_set.Statement.{statement}
-use Rattle.table.proofs.spent.bit_set.Tie as tie
+use Rattle.table.specs.Spent.{wordNumbers}
+use Rattle.table.proofs.Bits.{numberBit, bit-decoded}
+use Rattle.table.proofs.spent.bit_is_set.Statement.{statement}
+use Rattle.table.proofs.spent.bit_is_set.Tie as tie
 
 cast-at : tie.Need-cast-at
 cast-at c = search needs
@@ -37,7 +37,7 @@ returns c =
     ap (λ (b : ℕ). eqb (getD w (n / wordNumbers) 0 / b % 2) 1) (c .before .bit-of .ensures)
     ∙ bit-decoded w (start .pre .0) (λ i. omega (arith, c .shared-slice-known2 .given i)) n (start .pre .1)
 
-pub bit-set-spec : {M : Type 1} → statement M
-bit-set-spec =
+pub bit-is-set-spec : {M : Type 1} → statement M
+bit-is-set-spec =
     tie.close
     (tie.spec cast-at bit-of-requires mul-result shared-slice-read-result div-result returns)
