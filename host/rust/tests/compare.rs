@@ -8,10 +8,10 @@ use std::collections::BTreeSet;
 use std::fmt;
 use std::time::Instant;
 
-use independent::coverage::{Coverage, TABLE_NOT_VALID, TABLE_SHORT};
+use independent::coverage::{name, Coverage, TABLE_NOT_VALID, TABLE_SHORT};
 use independent::device::*;
 use independent::frames;
-use independent::layout::{self, Broken, BEHIND_AT, BLOCK, SPENT_AT, WORDS};
+use independent::layout::{self, Broken, BLOCK, INPUT_AT, OUTPUT_AT, SPENT_AT, UNUSED_AT, WORDS};
 use independent::on_words::{Core, OnWords, Outcome};
 use independent::random::{Generator, Rng, ODD_WORDS};
 use independent::slips;
@@ -159,7 +159,7 @@ impl<C: Core> Run<'_, C> {
         let end = last.min(self.step + steps);
         while self.step < end || self.step < last && self.generator.has_plan() {
             // With no stream and no number left there is little to meet.
-            let over = device.spent.count() == NUMBERS && device.places.iter().all(Option::is_none);
+            let over = device.spent.count() == NUMBERS && device.streams().next().is_none();
             if self.generator.rng.below(if over { 20 } else { 500 }) == 0 {
                 self.fresh_again(&mut table, &mut device)?;
             }
@@ -211,7 +211,7 @@ impl<C: Core> Run<'_, C> {
         let result = self.core.fresh(table);
         self.step += 1;
         self.coverage.steps += 1;
-        self.coverage.count_length(FRESH, table.len(), enough);
+        self.coverage.count_length(FRESH, table.len());
         if result != u32::from(!enough) {
             let what = format!("result {result} with {} words", table.len());
             return Err(self.mismatch(&"fresh", what));
@@ -250,7 +250,7 @@ impl<C: Core> Run<'_, C> {
         let done = self.compare(table, Some(device), act, &mut room)?;
         self.coverage.count(act, &done, edge);
         self.coverage.count_number(&before, act, &done);
-        self.coverage.count_depth(device, &done.written, table.len() - WORDS);
+        self.coverage.count_depth(device, &done.written, table.len());
         Ok(())
     }
 
@@ -286,30 +286,12 @@ impl<C: Core> Run<'_, C> {
     ) -> Result<Done, Mismatch> {
         let mut expected_table = table.to_vec();
         let mut expected_room = room.bytes.clone();
+        let done = expect(&mut expected_table, device, act, room.lent().len());
+        expected_room[room.start..][..done.written.len()].copy_from_slice(&done.written);
+
         let outcome = self.core.step(table, act, room.lent());
         self.step += 1;
-        let kind = match act {
-            Act::Command { .. } => COMMAND,
-            Act::Finish(_) => FINISH,
-            Act::Drained { .. } => DRAINED,
-        };
-        self.coverage.count_length(kind, table.len(), table.len() >= WORDS);
-
-        let refused = |refusal, why| Done { refusal, written: Vec::new(), why: Some(why) };
-        let length = room.lent().len();
-        let done = match device {
-            _ if expected_table.len() < WORDS => refused(1, TABLE_SHORT),
-            None if length < ROOM => refused(3, "answer buffer under 1,056 bytes"),
-            None => refused(2, TABLE_NOT_VALID),
-            Some(device) => {
-                let done = device.step(act, length);
-                if done.refusal == 0 {
-                    layout::write(device, &mut expected_table[..WORDS]);
-                }
-                done
-            }
-        };
-        expected_room[room.start..][..done.written.len()].copy_from_slice(&done.written);
+        self.coverage.count_length(act.kind(), table.len());
 
         let expected = Outcome { refusal: done.refusal, written: done.written.len() as u32 };
         if outcome != expected {
@@ -334,6 +316,24 @@ impl<C: Core> Run<'_, C> {
             what,
         }
     }
+}
+
+/// What the step is to come to with so much room, made on this copy of the table.
+fn expect(table: &mut [u32], device: Option<&mut Device>, act: &Act, room: usize) -> Done {
+    if table.len() < WORDS {
+        return Done::refused(1, TABLE_SHORT);
+    }
+    let Some(device) = device else {
+        return match room {
+            ROOM.. => Done::refused(2, TABLE_NOT_VALID),
+            _ => Done::refused(3, "answer buffer under 1,056 bytes"),
+        };
+    };
+    let done = device.step(act, room);
+    if done.refusal == 0 {
+        layout::write(device, &mut table[..WORDS]);
+    }
+    done
 }
 
 /// An answer room amid other bytes, at any address.
@@ -371,8 +371,8 @@ fn difference<T: PartialEq + fmt::LowerHex>(
     Some(format!("{what} {at} is {:#x}, expected {:#x}", found[at], expected[at]))
 }
 
-/// Each stream number, and some that none can be, on a table where it alone is spent, or all but it
-/// are; and all of them one after another on one table. Returns the number of steps.
+/// Each stream number, and some that none can be, on a table where it alone is spent, and on one
+/// where all but it are. Returns the number of steps.
 fn compare_numbers(core: &impl Core) -> Result<u64, Mismatch> {
     let mut run = Run {
         core,
@@ -382,22 +382,13 @@ fn compare_numbers(core: &impl Core) -> Result<u64, Mismatch> {
         step: 0,
         done: 0,
     };
-    let numbers = || (0..1100).chain([2047, 2048, 0x0001_0005, 0x8000_0005, u32::MAX]);
-    for number in numbers() {
+    for number in (0..1100).chain([2047, 2048, 0x0001_0005, 0x8000_0005, u32::MAX]) {
         for alone in [true, false] {
             let mut device = Device::default();
-            let spent = (0..NUMBERS as u32).filter(|&other| (other == number) == alone);
-            spent.for_each(|other| device.spent.add(other));
+            device.spent.extend(numbers().filter(|&other| (other == number) == alone));
             let mut table = run.generator.table(&device);
             run.life(&mut table, &mut device, number)?;
         }
-    }
-    let (mut table, mut device) = (run.fresh()?, Device::default());
-    for _ in 0..2 {
-        for number in numbers() {
-            run.life(&mut table, &mut device, number)?;
-        }
-        run.fresh_again(&mut table, &mut device)?;
     }
     Ok(run.step)
 }
@@ -405,14 +396,8 @@ fn compare_numbers(core: &impl Core) -> Result<u64, Mismatch> {
 /// Each of the 4,160 words of some valid tables set to each odd word and some more: the core takes
 /// the table exactly where the rules of docs/LAYOUT.md do. Returns the number of tables tried.
 fn compare_tables(core: &impl Core, seed: u64) -> Result<u64, Mismatch> {
-    let mut probes = Probes {
-        core,
-        seed,
-        rng: Rng::new(seed),
-        count: 0,
-        rules: Vec::new(),
-        met: BTreeSet::new(),
-    };
+    let (rules, met) = (BTreeSet::new(), BTreeSet::new());
+    let mut probes = Probes { core, seed, rng: Rng::new(seed), count: 0, rules, met };
     for device in tables_to_spoil(seed) {
         probes.each_word(&device)?;
     }
@@ -427,10 +412,47 @@ struct Probes<'p, C> {
     rng: Rng,
     count: u64,
     /// The rules that were broken.
-    rules: Vec<Broken>,
-    /// How some of them were broken, where it is to be in each of several ways: the rule, the word,
-    /// the value or what it is, and the kind of step.
-    met: BTreeSet<(Broken, usize, u32, usize)>,
+    rules: BTreeSet<Broken>,
+    /// The ways in which some of them were, each with the kind of step that the table was lent to.
+    met: BTreeSet<(Way, u32)>,
+}
+
+/// A way to break a rule, where it is to be broken in each of several ways.
+#[derive(Clone, Copy, Debug, PartialEq, Eq, PartialOrd, Ord)]
+enum Way {
+    /// Word 0 of a queue, which stands here in its block, has this value.
+    QueueHead(usize, u32),
+    /// This word without use is not zero.
+    Unused(usize),
+    /// The bit of a live number is dropped.
+    BitDropped,
+    /// A live number is changed to one of at most 1,023 that is not spent.
+    LowNumber,
+    /// A live number is changed to one above 1,023.
+    HighNumber,
+}
+
+impl Way {
+    /// The way in which setting a word to a value breaks a rule, if that is to be told apart.
+    fn of(rule: Broken, at: usize, value: u32) -> Option<Way> {
+        match rule {
+            Broken::QueueHead => Some(Way::QueueHead(at % BLOCK, value)),
+            Broken::Unused => Some(Way::Unused(at)),
+            Broken::NotSpent if at >= SPENT_AT => Some(Way::BitDropped),
+            Broken::NotSpent if value < NUMBERS as u32 => Some(Way::LowNumber),
+            Broken::NotSpent => Some(Way::HighNumber),
+            _ => None,
+        }
+    }
+
+    /// The ways to be met by each kind of step.
+    fn wanted() -> impl Iterator<Item = Way> {
+        let heads = [INPUT_AT, OUTPUT_AT]
+            .into_iter()
+            .flat_map(|at| [1, 2, u32::MAX].map(|value| Way::QueueHead(at, value)));
+        let unused = (UNUSED_AT..WORDS).map(Way::Unused);
+        heads.chain(unused).chain([Way::BitDropped, Way::LowNumber, Way::HighNumber])
+    }
 }
 
 impl<C: Core> Probes<'_, C> {
@@ -455,18 +477,21 @@ impl<C: Core> Probes<'_, C> {
                 }
                 table[at] = value;
                 // Over the places, each value of a block's word meets each kind of step.
-                let kind = (turn + at / BLOCK) % 3;
+                let kind = KINDS[(turn + at / BLOCK) % 3];
                 match self.lend(&table, at, kind)? {
                     Ok(_) => refused[at] = false,
-                    Err(rule) => self.note(rule, at, value, kind),
+                    Err(rule) => {
+                        self.rules.insert(rule);
+                        self.met.extend(Way::of(rule, at, value).map(|way| (way, kind)));
+                    }
                 }
             }
             table[at] = kept;
         }
         let unused = layout::without_use(device);
         assert!(unused.iter().all(|&at| refused[at]), "a word without use was taken");
-        if device.places.iter().all(Option::is_none) {
-            assert!(!refused[SPENT_AT..BEHIND_AT].contains(&true), "any numbers may be spent");
+        if device.streams().next().is_none() {
+            assert!(!refused[SPENT_AT..UNUSED_AT].contains(&true), "any numbers may be spent");
         }
         Ok(())
     }
@@ -477,7 +502,7 @@ impl<C: Core> Probes<'_, C> {
         &mut self,
         table: &[u32],
         at: usize,
-        kind: usize,
+        kind: u32,
     ) -> Result<Result<Device, Broken>, Mismatch> {
         let read = layout::read(table, None);
         self.count += 1;
@@ -499,43 +524,30 @@ impl<C: Core> Probes<'_, C> {
         })
     }
 
-    /// Notes the rule that was broken by setting a word to a value, and how.
-    fn note(&mut self, rule: Broken, at: usize, value: u32, kind: usize) {
-        if !self.rules.contains(&rule) {
-            self.rules.push(rule);
-        }
-        let (word, value) = match rule {
-            Broken::QueueHead if [1, 2, u32::MAX].contains(&value) => (at % BLOCK, value),
-            Broken::Behind => (at, 1),
-            // A live number's bit is dropped, or the number becomes another, or one above 1,023.
-            Broken::NotSpent if at >= SPENT_AT => (SPENT_AT, 0),
-            Broken::NotSpent => (at % BLOCK, u32::from(value as usize >= NUMBERS)),
-            _ => return,
-        };
-        self.met.insert((rule, word, value, kind));
-    }
-
     /// Each rule was broken, and some of them in each way by each kind of step.
-    fn all_met(&mut self) {
-        self.rules.sort();
-        assert_eq!(self.rules, Broken::ALL, "each rule is to be broken");
-        let ways = |rule| self.met.iter().filter(|met| met.0 == rule).count();
-        assert_eq!(ways(Broken::QueueHead), 3 * 2 * 3, "word 0 of each queue, each value");
-        assert_eq!(ways(Broken::Behind), 3 * (WORDS - BEHIND_AT), "each word without use");
-        assert_eq!(ways(Broken::NotSpent), 3 * 3, "each way not to be spent");
+    fn all_met(&self) {
+        assert!(self.rules.iter().eq(&Broken::ALL), "only these were broken: {:?}", self.rules);
+        for way in Way::wanted() {
+            for kind in KINDS {
+                assert!(self.met.contains(&(way, kind)), "{way:?} was not met by {}", name(kind));
+            }
+        }
     }
 }
 
-/// A step of each of three kinds, and the refusal that it meets on a valid table.
-fn refused_anyway(kind: usize) -> (Act, u32) {
+/// The kinds of step that test a table.
+const KINDS: [u32; 3] = [COMMAND, FINISH, DRAINED];
+
+/// A step of this kind, and the refusal that it meets on a valid table.
+fn refused_anyway(kind: u32) -> (Act, u32) {
     match kind {
-        0 => (Act::Command { ticket: 1, frame: vec![3, 1, 0, 0, 0, 0, 0] }, 4),
-        1 => (Act::Drained { stream: 0x1234_5678 }, 5),
-        _ => {
+        COMMAND => (Act::Command { ticket: 1, frame: vec![3, 1, 0, 0, 0, 0, 0] }, 4),
+        FINISH => {
             let report =
                 Report { stream: 0, queue_type: INPUT, resource: 0, flags: 4, timestamp: 0 };
             (Act::Finish(report), 6)
         }
+        _ => (Act::Drained { stream: 0x1234_5678 }, 5),
     }
 }
 
@@ -544,9 +556,9 @@ fn refused_anyway(kind: usize) -> (Act, u32) {
 fn tables_to_spoil(seed: u64) -> Vec<Device> {
     let mut generator = Generator::new(seed);
     let mut over = Device::default();
-    (0..NUMBERS as u32).for_each(|number| over.spent.add(number));
+    over.spent.extend(numbers());
     let mut full = Device::default();
-    for (number, place) in (0..NUMBERS as u32).rev().zip(&mut full.places) {
+    for (number, place) in numbers().rev().zip(&mut full.places) {
         full.spent.add(number);
         let mut stream = Stream::new(number, 0x1003);
         stream.drain = Some(9);
@@ -561,7 +573,7 @@ fn tables_to_spoil(seed: u64) -> Vec<Device> {
     let mut devices = vec![Device::default(), over, full];
     while devices.len() < 6 {
         let device = generator.lent();
-        let streams: Vec<&Stream> = device.places.iter().flatten().collect();
+        let streams: Vec<&Stream> = device.streams().collect();
         let states = |queued: bool| {
             streams.iter().any(|stream| {
                 stream

@@ -119,31 +119,6 @@ fn the_independent_log_by_hand() {
     assert_eq!(text(&answers(&input)), output);
 }
 
-/// A number is spent for good, a refused creation spends nothing, and 1,023 is the last number.
-#[test]
-fn spent_numbers_by_hand() {
-    let create = |number, tag: &[u8]| frames::stream_create(number, 0x1000, tag);
-    let cases = [
-        (create(4, &[0xff]), "0403000004000000"),
-        (create(4, b""), "0002000004000000"),
-        (create(4, b""), "0203000004000000"),
-        (frames::frame(STREAM_DESTROY, 4, 8), "0002000004000000"),
-        (create(4, b""), "0203000004000000"),
-        (create(4, &[0xff]), "0203000004000000"),
-        (frames::frame(STREAM_DRAIN, 4, 8), "0203000004000000"),
-        (create(1023, b""), "00020000ff030000"),
-        (create(1024, b""), "0203000000040000"),
-        (create(u32::MAX, &[0xff]), "02030000ffffffff"),
-    ];
-    let mut log = Log::default();
-    for (frame, answer) in cases {
-        let line = line_of(&Act::Command { ticket: 9, frame });
-        assert_eq!(text(&log.line(&line)), format!("8009000000{answer}\n"), "{}", text(&line));
-    }
-    // A report for the old stream.
-    assert_eq!(text(&log.line(b"0204000000")), "ff05\n");
-}
-
 #[test]
 fn examples_agree_with_the_independent_log() {
     for (name, input, output) in examples() {
@@ -184,36 +159,35 @@ fn random_logs_agree() {
         }
         let now = LINES_OF_A_SEED.min(lines - done);
         println!("seed {seed}, {now} lines");
-        let (input, output) = random_log(seed, now, &mut met);
-        let mut rng = Rng::new(seed);
-        let short = random_log(seed, LINES_BY_BYTES, &mut Met::default());
-        let ways = [
-            ("whole", vec![&input[..]], &input, &output),
-            ("odd pieces", cut(&mut rng, &input), &input, &output),
-            ("bytes", short.0.chunks(1).collect(), &short.0, &short.1),
-        ];
-        for (way, pieces, input, output) in ways {
-            if let Err(what) = compare(&program, &pieces, input, output) {
-                panic!("seed {seed}, {way}: {what}\nagain with SEED={seed} LOG_LINES={now}");
-            }
-        }
+        size += compare_seed(&program, seed, now, &mut met);
         done += now;
-        size += input.len();
     }
     println!("{done} lines, {size} bytes, {:.1} s", start.elapsed().as_secs_f64());
     println!("{:#?}", met.sorts);
-    let counts = met.coverage.of_log();
-    counts.iter().for_each(|(count, what)| println!("{count:>8}  {what}"));
+    met.coverage.of_log().iter().for_each(|(count, what)| println!("{count:>8}  {what}"));
     // A shorter run need not get everywhere.
     if lines >= LINES {
-        let of_sorts = SORTS
-            .into_iter()
-            .map(|sort| (met.sorts.get(sort).copied().unwrap_or(0), sort.to_string()));
-        let mut complaints = rare(of_sorts.collect(), 20);
-        // In one log a number is created only once.
-        complaints.extend(rare(counts, 5));
+        let complaints = met.complaints();
         assert!(complaints.is_empty(), "too little was met:\n{}", complaints.join("\n"));
     }
+}
+
+/// Runs the program on a seed's log, whole and in odd pieces, and on a short one byte by byte. Gives
+/// the bytes of the log.
+fn compare_seed(program: &Path, seed: u64, lines: u64, met: &mut Met) -> usize {
+    let (input, output) = random_log(seed, lines, met);
+    let short = random_log(seed, LINES_BY_BYTES, &mut Met::default());
+    let ways = [
+        ("whole", vec![&input[..]], &input, &output),
+        ("odd pieces", cut(&mut Rng::new(seed), &input), &input, &output),
+        ("bytes", short.0.chunks(1).collect(), &short.0, &short.1),
+    ];
+    for (way, pieces, input, output) in ways {
+        if let Err(what) = compare(program, &pieces, input, output) {
+            panic!("seed {seed}, {way}: {what}\nagain with SEED={seed} LOG_LINES={lines}");
+        }
+    }
+    input.len()
 }
 
 /// "Any length of input with fixed memory": a line of many bytes, and many lines.
@@ -579,6 +553,16 @@ impl Met {
             self.coverage.count_number(device, &act, &done);
         }
     }
+
+    /// Whatever was met too rarely.
+    fn complaints(&self) -> Vec<String> {
+        let of_sorts =
+            SORTS.map(|sort| (self.sorts.get(sort).copied().unwrap_or(0), sort.to_string()));
+        let mut complaints = rare(of_sorts.to_vec(), 20);
+        // In one log a number is created only once.
+        complaints.extend(rare(self.coverage.of_log(), 5));
+        complaints
+    }
 }
 
 /// Some random logs with their names and answers.
@@ -651,7 +635,7 @@ fn random_line(generator: &mut Generator, device: &Device) -> (&'static str, Vec
         930..940 => {
             let length = rng.pick(&[4188, 4188, 4189, 4189, 4189, 4190]);
             let kind = rng.pick(&[SET_CONTROL, RESOURCE_CREATE, RESOURCE_QUEUE]);
-            let number = device.places.iter().flatten().next().map_or(1, |stream| stream.number);
+            let number = device.streams().next().map_or(1, |stream| stream.number);
             let frame = frames::frame(kind, number, length - 5);
             (
                 "command of 4,188 to 4,190 bytes",
@@ -696,7 +680,7 @@ fn over_long(generator: &mut Generator, device: &Device) -> (&'static str, Vec<u
         }
         1 => {
             // A command that would fill the line, and more behind it.
-            let number = device.places.iter().flatten().next().map_or(1, |stream| stream.number);
+            let number = device.streams().next().map_or(1, |stream| stream.number);
             let longest = frames::frame(SET_CONTROL, number, MOST_DIGITS / 2 - 5);
             let mut line = line_of(&Act::Command { ticket: rng.word(), frame: longest });
             line.resize(length, b'0');

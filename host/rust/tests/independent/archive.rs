@@ -1,4 +1,4 @@
-//! The archive as a core, through the package's own declarations: the only place with `unsafe`.
+//! The archive as a core, through the package's own declarations.
 
 use super::device::Report;
 use super::on_words::{Core, Outcome};

@@ -5,6 +5,7 @@ use std::collections::BTreeMap;
 use std::fmt;
 
 use super::device::*;
+use super::layout::{has_hole, WORDS};
 use super::random::BAD_TEXT;
 
 /// Stands for a command of an unknown type or 0x0100.
@@ -213,49 +214,76 @@ const OTHER_FAULTS: [(Why, u32); 7] = [
     ("no place", INVALID_STREAM),
 ];
 
-/// Lengths of a table beside the edges, and whether they are enough.
-const LENGTHS: [(usize, bool); 5] =
-    [(4095, false), (4096, false), (4159, false), (4160, true), (4161, true)];
+/// Lengths of a table beside the edges, in words.
+const LENGTHS: [usize; 5] = [4095, 4096, 4159, 4160, 4161];
 
-/// Deep states, counted after each step on a valid table.
-const DEPTHS: &[Why] = &[
-    "8 streams live",
-    "16 resources in a queue",
-    "16 Queued in a queue",
-    "32 Queued in a stream",
-    "100 Queued in a table",
-    "4 drains owed",
-    "a free place before a used one",
-    "one resource number on both queues",
-    "1,056 bytes written",
-    "drain and buffers answered together",
-    "words behind the first 4,160",
-    "a spent number that is not live",
-    "no place, and a number not spent",
-    "200 numbers spent",
-    "all numbers spent, no stream live",
-    "all numbers spent, some streams live",
-];
+/// Deep states, and whether these records or the step that led to them are such.
+fn depths(device: &Device, written: &[u8], words: usize) -> [(Why, bool); 16] {
+    let queues = || device.streams().flat_map(|stream| [&stream.input, &stream.output]);
+    let queued = |stream: &Stream| stream.input.queued() + stream.output.queued();
+    let on_both = |stream: &Stream| {
+        let mut inputs = stream.input.resources.iter().flatten();
+        inputs.any(|resource| stream.output.has(resource.number))
+    };
+    let live = device.streams().count();
+    let drains = device.streams().filter(|stream| stream.drain.is_some()).count();
+    let hole = has_hole(&device.places) || queues().any(|queue: &Queue| has_hole(&queue.resources));
+    // The last two answers are then the drain's and the command's own.
+    let together = types(written).ends_with(&[OK_RESOURCE_QUEUE, OK_NODATA, OK_NODATA]);
+    let spent = device.spent.count();
+    [
+        ("8 streams live", live == PLACES),
+        ("16 resources in a queue", queues().any(Queue::is_full)),
+        ("16 Queued in a queue", queues().any(|queue| queue.queued() == SLOTS)),
+        ("32 Queued in a stream", device.streams().any(|stream| queued(stream) == 2 * SLOTS)),
+        ("100 Queued in a table", device.streams().map(queued).sum::<usize>() >= 100),
+        ("4 drains owed", drains >= 4),
+        ("a free place before a used one", hole),
+        ("one resource number on both queues", device.streams().any(on_both)),
+        ("1,056 bytes written", written.len() == ROOM),
+        ("drain and buffers answered together", together),
+        ("words behind the first 4,160", words > WORDS),
+        ("a spent number that is not live", spent > live),
+        ("no place, and a number not spent", live == PLACES && spent < NUMBERS),
+        ("200 numbers spent", spent >= 200),
+        ("all numbers spent, no stream live", spent == NUMBERS && live == 0),
+        ("all numbers spent, some streams live", spent == NUMBERS && live > 0),
+    ]
+}
+
+/// How often each of some things was met.
+#[derive(Default)]
+struct Counts<K>(BTreeMap<K, u64>);
+
+impl<K: Ord> Counts<K> {
+    fn add(&mut self, met: K) {
+        *self.0.entry(met).or_default() += 1;
+    }
+
+    fn of(&self, met: K) -> u64 {
+        self.0.get(&met).copied().unwrap_or(0)
+    }
+}
 
 /// The counts of a run.
 #[derive(Default)]
 pub struct Coverage {
     pub steps: u64,
     /// By kind of step, refusal and the code answered to the step itself.
-    outcomes: BTreeMap<(u32, u32, u32), u64>,
+    outcomes: Counts<(u32, u32, u32)>,
     /// Answers to what was owed, by kind of step and type.
-    owed: BTreeMap<(u32, u32), u64>,
-    reasons: BTreeMap<(u32, Why), u64>,
-    edges: BTreeMap<(Why, u32), u64>,
-    depths: BTreeMap<Why, u64>,
+    owed: Counts<(u32, u32)>,
+    reasons: Counts<(u32, Why)>,
+    edges: Counts<(Why, u32)>,
+    depths: Counts<Why>,
     /// By a creation's number, its one other fault and what is given.
-    faults: BTreeMap<(Why, Why, u32), u64>,
+    faults: Counts<(Why, Why, u32)>,
     /// Good creations, by the reason for which the same number was last refused.
-    after: BTreeMap<Why, u64>,
+    after: Counts<Why>,
     /// Commands and reports for a destroyed stream, by kind of step and what is given.
-    late: BTreeMap<(u32, u32), u64>,
-    /// By kind of step, the table's length and whether it is enough.
-    lengths: BTreeMap<(u32, usize, bool), u64>,
+    late: Counts<(u32, u32)>,
+    /// By kind of step and the table's length.
+    lengths: Counts<(u32, usize)>,
     /// Of the table at hand: numbers whose creation was refused, with the reason.
     refused: BTreeMap<u32, Why>,
     /// Of the table at hand: the numbers that were spent when it was last made fresh.
@@ -274,20 +302,15 @@ impl Coverage {
             _ => 0,
         };
         for code in owed {
-            *self.owed.entry((kind, code)).or_default() += 1;
+            self.owed.add((kind, code));
         }
-        *self.outcomes.entry((kind, done.refusal, code)).or_default() += 1;
+        self.outcomes.add((kind, done.refusal, code));
         if let Some(why) = done.why {
-            *self.reasons.entry((kind, why)).or_default() += 1;
+            self.reasons.add((kind, why));
         }
         if let Some(edge) = edge {
-            let given = if done.refusal != 0 { done.refusal } else { code };
-            self.count_edge(edge, given);
+            self.edges.add((edge, if done.refusal != 0 { done.refusal } else { code }));
         }
-    }
-
-    fn count_edge(&mut self, edge: Why, given: u32) {
-        *self.edges.entry((edge, given)).or_default() += 1;
     }
 
     /// Another table is at hand, or the same one made fresh while these numbers were spent.
@@ -297,8 +320,8 @@ impl Coverage {
     }
 
     /// Counts a step, or making fresh, by the length of its table.
-    pub fn count_length(&mut self, kind: u32, words: usize, enough: bool) {
-        *self.lengths.entry((kind, words, enough)).or_default() += 1;
+    pub fn count_length(&mut self, kind: u32, words: usize) {
+        self.lengths.add((kind, words));
     }
 
     /// Counts a step by its stream number and what that was before the step.
@@ -313,19 +336,19 @@ impl Coverage {
                 self.count_after(number, done.why);
             }
             (None, Act::Command { frame, .. }) if before.destroyed(word(frame, 4)) => {
-                *self.late.entry((kind_of(act, done.refusal), given)).or_default() += 1;
+                self.late.add((kind_of(act, done.refusal), given));
             }
             (None, Act::Finish(report)) if before.destroyed(report.stream) => {
-                *self.late.entry((FINISH, given)).or_default() += 1;
+                self.late.add((FINISH, given));
                 let fits = |of: &Stream| of.has_queued(report.queue_type, report.resource);
-                if before.places.iter().flatten().any(fits) {
-                    self.count_edge(LATE_FINISH, given);
+                if before.streams().any(fits) {
+                    self.edges.add((LATE_FINISH, given));
                 }
             }
             (None, Act::Drained { stream }) if before.destroyed(*stream) => {
-                *self.late.entry((DRAINED, given)).or_default() += 1;
-                if before.places.iter().flatten().any(Stream::can_be_drained) {
-                    self.count_edge(LATE_DRAINED, given);
+                self.late.add((DRAINED, given));
+                if before.streams().any(Stream::can_be_drained) {
+                    self.edges.add((LATE_DRAINED, given));
                 }
             }
             _ => {}
@@ -338,8 +361,8 @@ impl Coverage {
             OTHER_FAULTS.into_iter().map(|(why, _)| why).filter(|why| hits.contains(why)).collect();
         for name in self.names(before, number) {
             match others[..] {
-                [] => self.count_edge(name, given),
-                [other] => *self.faults.entry((name, other, given)).or_default() += 1,
+                [] => self.edges.add((name, given)),
+                [other] => self.faults.add((name, other, given)),
                 _ => {}
             }
         }
@@ -350,14 +373,14 @@ impl Coverage {
         if let Some(why) = why {
             self.refused.insert(number, why);
         } else if let Some(why) = self.refused.remove(&number) {
-            *self.after.entry(why).or_default() += 1;
+            self.after.add(why);
         }
     }
 
     /// What a creation's number is, by all its names.
     fn names(&self, before: &Device, number: u32) -> impl Iterator<Item = Why> {
         let spent = |number| before.spent.has(number);
-        let beside = (1024..2048).contains(&number);
+        let less_1024 = number.checked_sub(1024).filter(|&less| less < 1024);
         let names = [
             (number == 0, "number 0"),
             (number == 31, "number 31"),
@@ -365,8 +388,8 @@ impl Coverage {
             (number == 1023, "number 1,023"),
             (number == 1024, "number 1,024"),
             (number > 1023, "number above 1,023"),
-            (beside && spent(number - 1024), "number 1,024 above a spent one"),
-            (beside && !spent(number - 1024), "number 1,024 above one not spent"),
+            (less_1024.is_some_and(spent), "number 1,024 above a spent one"),
+            (less_1024.is_some_and(|less| !spent(less)), "number 1,024 above one not spent"),
             (
                 number >= 1 << 16 && number & 0xffff < 1024,
                 "number of 2^16 or more, its low half under 1,024",
@@ -380,80 +403,38 @@ impl Coverage {
         names.into_iter().filter(|name| name.0).map(|name| name.1)
     }
 
-    /// Counts the states that the records are in after a step.
-    pub fn count_depth(&mut self, device: &Device, written: &[u8], behind: usize) {
-        let mut queued_in_table = 0;
-        let mut met = [false; DEPTHS.len()];
-        let live = device.places.iter().flatten().count();
-        met[0] = live == PLACES;
-        met[5] =
-            device.places.iter().flatten().filter(|stream| stream.drain.is_some()).count() >= 4;
-        met[6] = device.places[..live].iter().any(Option::is_none);
-        for stream in device.places.iter().flatten() {
-            let mut queued_in_stream = 0;
-            for queue in [&stream.input, &stream.output] {
-                let used = queue.resources.iter().flatten().count();
-                let queued = queue
-                    .resources
-                    .iter()
-                    .flatten()
-                    .filter(|resource| resource.is_queued())
-                    .count();
-                queued_in_stream += queued;
-                met[1] |= used == SLOTS;
-                met[2] |= queued == SLOTS;
-                met[6] |= queue.resources[..used].iter().any(Option::is_none);
+    /// Counts the states that a step on a valid table of so many words has led to.
+    pub fn count_depth(&mut self, device: &Device, written: &[u8], words: usize) {
+        for (depth, met) in depths(device, written, words) {
+            if met {
+                self.depths.add(depth);
             }
-            met[3] |= queued_in_stream == 2 * SLOTS;
-            met[7] |= stream
-                .input
-                .resources
-                .iter()
-                .flatten()
-                .any(|resource| stream.output.has(resource.number));
-            queued_in_table += queued_in_stream;
-        }
-        met[4] = queued_in_table >= 100;
-        met[8] = written.len() == ROOM;
-        // The last two are then the drain's and the command's own.
-        met[9] = types(written).ends_with(&[OK_RESOURCE_QUEUE, OK_NODATA, OK_NODATA]);
-        met[10] = behind > 0;
-        let spent = device.spent.count();
-        met[11] = spent > live;
-        met[12] = live == PLACES && spent < NUMBERS;
-        met[13] = spent >= 200;
-        met[14] = spent == NUMBERS && live == 0;
-        met[15] = spent == NUMBERS && live > 0;
-        for (depth, met) in DEPTHS.iter().zip(met) {
-            *self.depths.entry(depth).or_default() += u64::from(met);
         }
     }
 
     /// Whatever was met fewer than so many times, and whatever should not have been met at all.
     pub fn complaints(&self, least: u64) -> Vec<String> {
-        let mut counts = self.of_lists(self.wanted_reasons());
-        counts.extend(self.of_edges(wanted_edges()));
-        counts.extend(self.of_numbers());
-        counts.extend(self.of_lengths());
-        counts.extend(
-            DEPTHS
-                .iter()
-                .map(|depth| (self.depths.get(depth).copied().unwrap_or(0), depth.to_string())),
-        );
-        let mut complaints = rare(counts, least);
+        let counts = [
+            self.of_lists(wanted_reasons()),
+            self.of_edges(wanted_edges()),
+            self.of_numbers(),
+            self.of_lengths(),
+            self.of_depths(),
+        ];
+        let mut complaints = rare(counts.concat(), least);
         let mut deny = |kind: u32, number: u32| {
             let (kind, number) = (name(kind), number_name(number));
             complaints.push(format!("{kind}: {number} cannot occur by documents 01 and 02"));
         };
-        for &(kind, refusal, code) in self.outcomes.keys() {
+        for &(kind, refusal, code) in self.outcomes.0.keys() {
             let number = if refusal != 0 { refusal } else { code };
             let success = SUCCESSES.contains(&(kind, code)) && refusal == 0;
-            let known = self.wanted_reasons().any(|(of, _, given)| of == kind && given == number);
+            let known = wanted_reasons().any(|(of, _, given)| of == kind && given == number);
             if !success && !known {
                 deny(kind, number);
             }
         }
-        for &(kind, code) in self.owed.keys().filter(|owed| !OWED.contains(owed)) {
+        for &(kind, code) in self.owed.0.keys().filter(|owed| !OWED.contains(owed)) {
             deny(kind, code);
         }
         complaints
@@ -461,51 +442,50 @@ impl Coverage {
 
     /// What of all this a log shows, with its counts.
     pub fn of_log(&self) -> Vec<(u64, String)> {
-        let mut counts = self.of_lists(REASONS.iter().copied().filter(|reason| reason.2 != 3));
-        counts.extend(self.of_edges(NUMBER_EDGES.iter().copied()));
-        counts.extend(self.of_numbers());
-        counts
+        let reasons = REASONS.iter().copied().filter(|reason| reason.2 != 3);
+        let edges = NUMBER_EDGES.iter().copied();
+        [self.of_lists(reasons), self.of_edges(edges), self.of_numbers()].concat()
     }
 
     /// These reasons, each success and each answer to what was owed, with their counts.
     fn of_lists(&self, reasons: impl Iterator<Item = (u32, Why, u32)>) -> Vec<(u64, String)> {
         let mut counts = Vec::new();
         for (kind, why, number) in reasons {
-            let count = self.reasons.get(&(kind, why)).copied().unwrap_or(0);
+            let count = self.reasons.of((kind, why));
             counts.push((count, format!("{}, {why} ({})", name(kind), number_name(number))));
         }
         for &(kind, code) in SUCCESSES {
-            let count = self.outcomes.get(&(kind, 0, code)).copied().unwrap_or(0);
+            let count = self.outcomes.of((kind, 0, code));
             counts.push((count, format!("{}, success", name(kind))));
         }
         for &(kind, code) in OWED {
-            let count = self.owed.get(&(kind, code)).copied().unwrap_or(0);
+            let count = self.owed.of((kind, code));
             counts.push((count, format!("{}, owed ({})", name(kind), number_name(code))));
         }
         counts
     }
 
     fn of_edges(&self, edges: impl Iterator<Item = (Why, u32)>) -> Vec<(u64, String)> {
-        let count = |edge| self.edges.get(&edge).copied().unwrap_or(0);
-        edges.map(|edge| (count(edge), format!("{} ({})", edge.0, number_name(edge.1)))).collect()
+        let named = |edge: (Why, u32)| format!("{} ({})", edge.0, number_name(edge.1));
+        edges.map(|edge| (self.edges.of(edge), named(edge))).collect()
     }
 
     /// What of the rules of stream numbers is to be met, with its counts: two faults at once, a good
-    /// creation behind a refused one, and steps for a destroyed stream.
+    /// creation after a refused one, and steps for a destroyed stream.
     fn of_numbers(&self) -> Vec<(u64, String)> {
         let mut counts = Vec::new();
         for name in NUMBERS_AT_FAULT {
             for (other, code) in OTHER_FAULTS {
-                let count = self.faults.get(&(name, other, code)).copied().unwrap_or(0);
+                let count = self.faults.of((name, other, code));
                 counts.push((count, format!("{name}, {other} ({})", number_name(code))));
             }
         }
         for (why, _) in OTHER_FAULTS {
-            let count = self.after.get(why).copied().unwrap_or(0);
+            let count = self.after.of(why);
             counts.push((count, format!("number created after it was refused: {why}")));
         }
         for (kind, given) in wanted_late() {
-            let count = self.late.get(&(kind, given)).copied().unwrap_or(0);
+            let count = self.late.of((kind, given));
             let given = number_name(given);
             counts.push((count, format!("{} for a destroyed stream ({given})", name(kind))));
         }
@@ -516,21 +496,19 @@ impl Coverage {
     fn of_lengths(&self) -> Vec<(u64, String)> {
         let mut counts = Vec::new();
         for kind in [FRESH, COMMAND, FINISH, DRAINED] {
-            for (words, enough) in LENGTHS {
-                let count = self.lengths.get(&(kind, words, enough)).copied().unwrap_or(0);
+            for words in LENGTHS {
+                let count = self.lengths.of((kind, words));
                 let kind = if kind == COMMAND { "command" } else { name(kind) };
-                let verb = if enough { "taken" } else { "refused" };
-                counts.push((count, format!("{kind}, table of {words} words {verb}")));
+                counts.push((count, format!("{kind}, table of {words} words")));
             }
         }
         counts
     }
 
-    fn wanted_reasons(&self) -> impl Iterator<Item = (u32, Why, u32)> {
-        let of_tables = [COMMAND, FINISH, DRAINED]
-            .into_iter()
-            .flat_map(|kind| [(kind, TABLE_SHORT, 1), (kind, TABLE_NOT_VALID, 2)]);
-        REASONS.iter().copied().chain(of_tables)
+    /// The deep states with their counts.
+    fn of_depths(&self) -> Vec<(u64, String)> {
+        let names = depths(&Device::default(), &[], 0).map(|(depth, _)| depth);
+        names.map(|depth| (self.depths.of(depth), depth.to_string())).to_vec()
     }
 }
 
@@ -540,24 +518,31 @@ pub fn rare(counts: Vec<(u64, String)>, least: u64) -> Vec<String> {
     rare.map(|(count, what)| format!("{what}: {count} times, wanted {least}")).collect()
 }
 
+fn wanted_reasons() -> impl Iterator<Item = (u32, Why, u32)> {
+    let of_tables = [COMMAND, FINISH, DRAINED]
+        .into_iter()
+        .flat_map(|kind| [(kind, TABLE_SHORT, 1), (kind, TABLE_NOT_VALID, 2)]);
+    REASONS.iter().copied().chain(of_tables)
+}
+
 fn wanted_edges() -> impl Iterator<Item = (Why, u32)> {
     let of_tags = BAD_TEXT.iter().map(|&(edge, _)| (edge, INVALID_PARAMETER));
     EDGES.iter().chain(NUMBER_EDGES).copied().chain(of_tags)
 }
 
-/// The kinds of step that can come for a destroyed stream, and what is given.
+/// The kinds of step that can come for a destroyed stream, and what is given. A finish may have bad
+/// flags too, which are tested first.
 fn wanted_late() -> impl Iterator<Item = (u32, u32)> {
     let not_live = REASONS.iter().filter(|&&(_, why, _)| why == "stream not live");
-    not_live.map(|&(kind, _, code)| (kind, code)).chain([(FINISH, 5), (DRAINED, 5)])
+    not_live.map(|&(kind, _, code)| (kind, code)).chain([(FINISH, 5), (FINISH, 6), (DRAINED, 5)])
 }
 
-/// Prints tables: outcomes by kind of step, answers to what was owed, reasons, stream numbers,
-/// lengths of tables, and edges and depths.
+/// Prints the outcomes by kind of step, and whatever is to be met with its count.
 impl fmt::Display for Coverage {
     fn fmt(&self, out: &mut fmt::Formatter) -> fmt::Result {
         writeln!(out, "{} steps", self.steps)?;
         let mut last = None;
-        for (&(kind, refusal, code), count) in &self.outcomes {
+        for (&(kind, refusal, code), count) in &self.outcomes.0 {
             if last != Some(kind) {
                 write!(out, "{}{:<24}", if last.is_some() { "\n" } else { "" }, name(kind))?;
                 last = Some(kind);
@@ -565,45 +550,31 @@ impl fmt::Display for Coverage {
             let number = if refusal != 0 { refusal } else { code };
             write!(out, " {} {count:<7}", number_name(number))?;
         }
-        writeln!(out, "\n\nTo what was owed:")?;
-        for &(kind, code) in OWED {
-            let count = self.owed.get(&(kind, code)).copied().unwrap_or(0);
-            writeln!(out, "{count:>8}  {} {}", number_name(code), name(kind))?;
-        }
-        writeln!(out, "\nBy reason:")?;
-        for (kind, why, number) in self.wanted_reasons() {
-            let count = self.reasons.get(&(kind, why)).copied().unwrap_or(0);
-            writeln!(out, "{count:>8}  {} {}, {why}", number_name(number), name(kind))?;
-        }
-        writeln!(out, "\nStream numbers and lengths of tables:")?;
-        for (count, what) in self.of_numbers().into_iter().chain(self.of_lengths()) {
-            writeln!(out, "{count:>8}  {what}")?;
-        }
-        writeln!(out, "\nEdges and deep states:")?;
-        for (edge, code) in wanted_edges() {
-            let count = self.edges.get(&(edge, code)).copied().unwrap_or(0);
-            writeln!(out, "{count:>8}  {} {edge}", number_name(code))?;
-        }
-        for depth in DEPTHS {
-            writeln!(out, "{:>8}  {depth}", self.depths.get(depth).copied().unwrap_or(0))?;
+        writeln!(out)?;
+        for (title, counts) in [
+            ("By reason, successes, and what was owed", self.of_lists(wanted_reasons())),
+            ("Stream numbers", self.of_numbers()),
+            ("Lengths of tables", self.of_lengths()),
+            ("Edges", self.of_edges(wanted_edges())),
+            ("Deep states", self.of_depths()),
+        ] {
+            writeln!(out, "\n{title}:")?;
+            for (count, what) in counts {
+                writeln!(out, "{count:>8}  {what}")?;
+            }
         }
         Ok(())
     }
 }
 
-/// The kind that a step is counted under.
+/// The kind that a step is counted under: of a command that was not refused, its type.
 fn kind_of(act: &Act, refusal: u32) -> u32 {
     match act {
-        Act::Finish(_) => FINISH,
-        Act::Drained { .. } => DRAINED,
-        Act::Command { .. } if refusal != 0 => COMMAND,
-        Act::Command { frame, .. } => match frame.first_chunk() {
-            Some(&kind) => match u32::from_le_bytes(kind) {
-                kind @ STREAM_CREATE..=SET_CONTROL => kind,
-                _ => UNKNOWN,
-            },
-            None => UNKNOWN,
+        Act::Command { frame, .. } if refusal == 0 => match word(frame, 0) {
+            kind @ STREAM_CREATE..=SET_CONTROL => kind,
+            _ => UNKNOWN,
         },
+        _ => act.kind(),
     }
 }
 

@@ -16,6 +16,11 @@ pub const NUMBERS: usize = 1024;
 /// "One step writes at most 1,056 bytes."
 pub const ROOM: usize = 1056;
 
+/// The numbers that a stream can have.
+pub fn numbers() -> impl DoubleEndedIterator<Item = u32> {
+    0..NUMBERS as u32
+}
+
 pub const QUERY_CAPABILITY: u32 = 0x0100;
 pub const STREAM_CREATE: u32 = 0x0101;
 pub const STREAM_DESTROY: u32 = 0x0102;
@@ -61,6 +66,17 @@ pub enum Act {
     Drained { stream: u32 },
 }
 
+impl Act {
+    /// The kind of step, whatever the type of a command.
+    pub fn kind(&self) -> u32 {
+        match self {
+            Act::Command { .. } => COMMAND,
+            Act::Finish(_) => FINISH,
+            Act::Drained { .. } => DRAINED,
+        }
+    }
+}
+
 /// A finish report: "stream, queue type, resource, flags, 64-bit timestamp".
 #[derive(Clone, Copy, Debug, PartialEq, Eq)]
 pub struct Report {
@@ -81,8 +97,9 @@ pub struct Device {
 }
 
 /// The spent numbers: "a number whose creation has ever succeeded since the table was made fresh".
-#[derive(Clone, PartialEq, Eq)]
-pub struct Spent([bool; NUMBERS]);
+/// Each is a bit, so that a step is not slowed down by all 1,024 of them.
+#[derive(Clone, Default, PartialEq, Eq)]
+pub struct Spent(pub [u32; NUMBERS / 32]);
 
 /// "A live stream's record holds its number, coded format, a drain owed or not with its ticket, and
 /// for each queue ..."
@@ -159,6 +176,16 @@ pub struct Done {
     pub why: Option<Why>,
 }
 
+impl Done {
+    pub fn refused(number: u32, why: Why) -> Done {
+        Done { refusal: number, written: Vec::new(), why: Some(why) }
+    }
+
+    pub fn taken(written: Vec<u8>) -> Done {
+        Done { refusal: 0, written, why: None }
+    }
+}
+
 impl Device {
     /// A step of any kind with an answer buffer of `room` bytes.
     pub fn step(&mut self, act: &Act, room: usize) -> Done {
@@ -176,7 +203,7 @@ impl Device {
             (frame.len() < 8, 4, "command under 8 bytes"),
         ];
         if let Err(hit) = first_hit(self.slip, COMMAND, &tests) {
-            return refused(hit);
+            return Done::refused(hit.number, hit.why);
         }
         let number = word(frame, 4);
         let mut answers = Answers::new(self.slip, word(frame, 0));
@@ -197,13 +224,11 @@ impl Device {
         frame: &[u8],
         answers: &mut Answers,
     ) -> Result<(), Hit> {
-        let slip = self.slip;
-        let slips = |other| slip == Some(other);
         let mut kind = word(frame, 0);
-        if slips(Slip::TypeIn16Bits) {
+        if self.slip == Some(Slip::TypeIn16Bits) {
             kind &= 0xffff;
         }
-        let Some(right_length) = right_length(slip, kind, frame) else {
+        let Some(right_length) = right_length(self.slip, kind, frame) else {
             return Err(Hit { number: INVALID_OPERATION, why: "unknown type or 0x0100" });
         };
         if kind == STREAM_CREATE {
@@ -211,14 +236,28 @@ impl Device {
             answers.success(ticket, number);
             return Ok(());
         }
+        match self.asked_place(kind, number, right_length)? {
+            Some(place) => self.serve_live(place, kind, ticket, frame, answers),
+            None => Ok(()),
+        }
+    }
+
+    /// The place of the live stream that a command is for, after the tests that come before the
+    /// command's own list. Only a slip lets these pass without one.
+    fn asked_place(
+        &mut self,
+        kind: u32,
+        number: u32,
+        right_length: bool,
+    ) -> Result<Option<usize>, Hit> {
         let place = self.place_of(number);
-        let late = slips(Slip::LateCommandIs0300) && self.destroyed(number);
+        let late = self.slips_late(Slip::LateCommandIs0300, number);
         let not_live = if late { INVALID_OPERATION } else { INVALID_STREAM };
-        if slips(Slip::CommandSpends) && right_length {
+        if self.slip == Some(Slip::CommandSpends) && right_length {
             self.spent.add(number);
         }
         first_hit(
-            slip,
+            self.slip,
             kind,
             &[
                 (!right_length, INVALID_PARAMETER, "wrong length"),
@@ -226,10 +265,21 @@ impl Device {
                 (kind >= QUERY_CONTROL, UNSUPPORTED_CONTROL, "unsupported control"),
             ],
         )?;
-        let Some(place) = place else { return Ok(()) };
-        let Some(stream) = self.places[place].as_mut() else {
-            return Ok(());
-        };
+        Ok(place)
+    }
+
+    /// A command's own list and work, on the stream in this place.
+    fn serve_live(
+        &mut self,
+        place: usize,
+        kind: u32,
+        ticket: u32,
+        frame: &[u8],
+        answers: &mut Answers,
+    ) -> Result<(), Hit> {
+        let slip = self.slip;
+        let Some(stream) = self.places[place].as_mut() else { return Ok(()) };
+        let number = stream.number;
         match kind {
             STREAM_DESTROY => {
                 stream.stop_all(slip, answers);
@@ -238,7 +288,7 @@ impl Device {
             STREAM_DRAIN => return stream.drain(slip, ticket),
             RESOURCE_CREATE => {
                 stream.resource_create(slip, frame)?;
-                if slips(Slip::ResourceSpends) {
+                if slip == Some(Slip::ResourceSpends) {
                     self.spent.add(word(frame, 12));
                 }
             }
@@ -374,62 +424,36 @@ impl Device {
     /// A finish report: "flags above 3 (6), then 5, then the EOS rule (6)".
     pub fn finish(&mut self, report: &Report, room: usize) -> Done {
         let slip = self.slip;
-        let slips = |other| slip == Some(other);
-        let queue_type = QueueType::of(report.queue_type);
-        let input = queue_type == Some(QueueType::Input);
-        let taken = self.takes_late(FINISH, report.stream);
+        let taken = self.slips_late(Slip::LateReportTaken(FINISH), report.stream);
+        let late_first = self.slips_late(Slip::LateBeforeFlags, report.stream);
         let fits = |stream: &Stream| stream.has_queued(report.queue_type, report.resource);
         let mut stream = self.live(self.reported(FINISH, report.stream, fits));
         let draining = stream.as_ref().is_some_and(|stream| stream.drain.is_some());
-        let looked_in = match queue_type {
-            Some(QueueType::Input) if slips(Slip::InputReadAsOutput) => Some(QueueType::Output),
-            other => other,
-        };
-        let queued = stream
-            .as_mut()
-            .zip(looked_in)
-            .and_then(|(stream, queue_type)| stream.queue(queue_type).find(report.resource))
-            .filter(|resource| resource.is_queued());
+        let queued = stream.as_mut().is_some_and(|stream| stream.buffer(slip, report).is_some());
+        let input = report.queue_type == INPUT;
         let eos = report.flags & EOS != 0;
         let tests = [
             (room < ROOM, 3, "answer buffer under 1,056 bytes"),
-            (report.flags > ERR + EOS, 6, "flags outside ERR and EOS"),
-            (queued.is_none() && !taken, 5, "no buffer now Queued"),
+            (report.flags > ERR + EOS && !late_first, 6, "flags outside ERR and EOS"),
+            (!queued && !taken, 5, "no buffer now Queued"),
             (eos && input, 6, "EOS on an input"),
             (eos && !draining, 6, "EOS with no drain owed"),
         ];
         if let Err(hit) = first_hit(slip, FINISH, &tests) {
-            return refused(hit);
+            return Done::refused(hit.number, hit.why);
         }
         let mut answers = Answers::new(slip, FINISH);
-        if let Some(resource) = queued {
-            if let State::Queued { ticket, timestamp: own } = resource.state {
-                // "An input's timestamp is its own, an output's the report's."
-                let timestamp = match slip {
-                    Some(Slip::InputTimestampOfReport) => report.timestamp,
-                    Some(Slip::OutputTimestampOwn) => own,
-                    _ if input => own,
-                    _ => report.timestamp,
-                };
-                answers.buffer(ticket, report.stream, report.queue_type, timestamp, report.flags);
-                resource.state =
-                    if slips(Slip::FinishedIsCreated) { State::Created } else { State::Dequeued };
-            }
-        }
         if let Some(stream) = stream {
-            let last_input = slips(Slip::LastInputEndsDrain) && input && !stream.input.any_queued();
-            if last_input || slips(Slip::EosEndsDrain) && eos {
-                stream.stop_drain(&mut answers);
-            }
+            stream.finish(slip, report, &mut answers);
         }
-        Done { refusal: 0, written: answers.bytes, why: None }
+        Done::taken(answers.bytes)
     }
 
     /// A drained report: refused with 5 for "no such stream, no drain owed, or an input still
     /// Queued".
     pub fn drained(&mut self, number: u32, room: usize) -> Done {
         let slip = self.slip;
-        let taken = self.takes_late(DRAINED, number);
+        let taken = self.slips_late(Slip::LateReportTaken(DRAINED), number);
         let stream = self.live(self.reported(DRAINED, number, Stream::can_be_drained));
         let draining = stream.as_ref().is_some_and(|stream| stream.drain.is_some());
         let input_queued = stream.as_ref().is_some_and(|stream| {
@@ -443,7 +467,7 @@ impl Device {
             (input_queued, 5, "an input still Queued"),
         ];
         if let Err(hit) = first_hit(slip, DRAINED, &tests) {
-            return refused(hit);
+            return Done::refused(hit.number, hit.why);
         }
         let mut answers = Answers::new(slip, DRAINED);
         if let Some(stream) = stream {
@@ -453,21 +477,21 @@ impl Device {
                 stream.drain = pending;
             }
         }
-        Done { refusal: 0, written: answers.bytes, why: None }
+        Done::taken(answers.bytes)
     }
 
-    /// Whether a slip takes a report for a destroyed stream.
-    fn takes_late(&self, kind: u32, number: u32) -> bool {
-        self.slip == Some(Slip::LateReportTaken(kind)) && self.destroyed(number)
+    /// Whether this slip is made, on a step for a destroyed stream.
+    fn slips_late(&self, slip: Slip, number: u32) -> bool {
+        self.slip == Some(slip) && self.destroyed(number)
     }
 
     /// The number of the stream that a report is for: its own. A slip lets a report for a destroyed
     /// stream land in another that it fits.
     fn reported(&self, kind: u32, number: u32, fits: impl Fn(&Stream) -> bool) -> u32 {
-        if self.slip != Some(Slip::LateReportLands(kind)) || !self.destroyed(number) {
+        if !self.slips_late(Slip::LateReportLands(kind), number) {
             return number;
         }
-        let landing = self.places.iter().flatten().find(|stream| fits(stream));
+        let landing = self.streams().find(|stream| fits(stream));
         landing.map_or(number, |stream| stream.number)
     }
 
@@ -482,14 +506,18 @@ impl Device {
             .position(|place| place.as_ref().is_some_and(|stream| stream.number == number))
     }
 
+    /// The live streams.
+    pub fn streams(&self) -> impl Iterator<Item = &Stream> {
+        self.places.iter().flatten()
+    }
+
+    /// The live stream of this number.
+    pub fn stream(&self, number: u32) -> Option<&Stream> {
+        self.streams().find(|stream| stream.number == number)
+    }
+
     fn live(&mut self, number: u32) -> Option<&mut Stream> {
         self.places.iter_mut().flatten().find(|stream| stream.number == number)
-    }
-}
-
-impl Default for Spent {
-    fn default() -> Spent {
-        Spent([false; NUMBERS])
     }
 }
 
@@ -500,29 +528,41 @@ impl fmt::Debug for Spent {
 }
 
 impl Spent {
+    /// The word and the bit of a number, the lowest bit being bit 0.
+    pub fn bit_of(number: u32) -> (usize, u32) {
+        (number as usize / 32, number % 32)
+    }
+
     pub fn has(&self, number: u32) -> bool {
-        self.0.get(number as usize) == Some(&true)
+        let (at, bit) = Spent::bit_of(number);
+        self.0.get(at).is_some_and(|word| word >> bit & 1 == 1)
     }
 
     /// There is no room for a number above 1,023, which only a slip gets to see.
     pub fn add(&mut self, number: u32) {
-        if let Some(spent) = self.0.get_mut(number as usize) {
-            *spent = true;
+        let (at, bit) = Spent::bit_of(number);
+        if let Some(word) = self.0.get_mut(at) {
+            *word |= 1 << bit;
         }
     }
 
     pub fn count(&self) -> usize {
-        self.0.iter().filter(|&&spent| spent).count()
+        self.0.iter().map(|word| word.count_ones() as usize).sum()
     }
 
     pub fn numbers(&self) -> impl Iterator<Item = u32> + '_ {
-        (0..NUMBERS as u32).filter(|&number| self.has(number))
+        numbers().filter(|&number| self.has(number))
     }
 
     pub fn keep(&mut self, kept: impl Fn(u32) -> bool) {
-        for (number, spent) in (0..).zip(&mut self.0) {
-            *spent &= kept(number);
-        }
+        let before = std::mem::take(self);
+        self.extend(before.numbers().filter(|&number| kept(number)));
+    }
+}
+
+impl Extend<u32> for Spent {
+    fn extend<I: IntoIterator<Item = u32>>(&mut self, numbers: I) {
+        numbers.into_iter().for_each(|number| self.add(number));
     }
 }
 
@@ -568,6 +608,43 @@ impl Stream {
     /// The queue that a queue type in a frame names, if it is one.
     fn named(&mut self, queue_type: u32) -> Option<&mut Queue> {
         QueueType::of(queue_type).map(|queue_type| self.queue(queue_type))
+    }
+
+    /// The buffer that a finish report names, if it is Queued.
+    fn buffer(&mut self, slip: Option<Slip>, report: &Report) -> Option<&mut Resource> {
+        let queue_type = match QueueType::of(report.queue_type)? {
+            QueueType::Input if slip == Some(Slip::InputReadAsOutput) => QueueType::Output,
+            right => right,
+        };
+        let named = self.queue(queue_type).find(report.resource);
+        named.filter(|resource| resource.is_queued())
+    }
+
+    /// Answers the buffer of a finish report, which is then Dequeued.
+    fn finish(&mut self, slip: Option<Slip>, report: &Report, answers: &mut Answers) {
+        let input = report.queue_type == INPUT;
+        if let Some(buffer) = self.buffer(slip, report) {
+            if let State::Queued { ticket, timestamp: own } = buffer.state {
+                // "An input's timestamp is its own, an output's the report's."
+                let timestamp = match slip {
+                    Some(Slip::InputTimestampOfReport) => report.timestamp,
+                    Some(Slip::OutputTimestampOwn) => own,
+                    _ if input => own,
+                    _ => report.timestamp,
+                };
+                answers.buffer(ticket, report.stream, report.queue_type, timestamp, report.flags);
+            }
+            let created = slip == Some(Slip::FinishedIsCreated);
+            buffer.state = if created { State::Created } else { State::Dequeued };
+        }
+        let ends_drain = match slip {
+            Some(Slip::LastInputEndsDrain) => input && !self.input.any_queued(),
+            Some(Slip::EosEndsDrain) => report.flags & EOS != 0,
+            _ => false,
+        };
+        if ends_drain {
+            self.stop_drain(answers);
+        }
     }
 
     /// 0x0102: "answers every Queued input, then output, then an owed drain".
@@ -811,6 +888,15 @@ impl Queue {
 
     pub fn any_queued(&self) -> bool {
         self.resources.iter().flatten().any(Resource::is_queued)
+    }
+
+    /// How many of its buffers are Queued.
+    pub fn queued(&self) -> usize {
+        self.resources.iter().flatten().filter(|resource| resource.is_queued()).count()
+    }
+
+    pub fn is_full(&self) -> bool {
+        self.resources.iter().all(Option::is_some)
     }
 
     /// "A new stream or resource takes the lowest free place."
@@ -1063,10 +1149,6 @@ pub fn word(bytes: &[u8], at: usize) -> u32 {
 /// A little-endian number of 8 bytes.
 fn long(bytes: &[u8], at: usize) -> u64 {
     u64::from(word(bytes, at)) | u64::from(word(bytes, at + 4)) << 32
-}
-
-fn refused(hit: Hit) -> Done {
-    Done { refusal: hit.number, written: Vec::new(), why: Some(hit.why) }
 }
 
 /// The tests of a list in order: "first hit answers".

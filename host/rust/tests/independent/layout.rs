@@ -9,7 +9,7 @@ pub const BLOCK: usize = 512;
 /// Where the spent numbers stand, behind the blocks.
 pub const SPENT_AT: usize = 4096;
 /// From here on the table's words have no use.
-pub const BEHIND_AT: usize = 4128;
+pub const UNUSED_AT: usize = 4128;
 /// Where a queue starts in a block.
 pub const INPUT_AT: usize = 8;
 pub const OUTPUT_AT: usize = 92;
@@ -54,7 +54,7 @@ pub enum Broken {
     /// The number of a live place is not spent.
     NotSpent,
     /// One of words 4,128 to 4,159 is not zero.
-    Behind,
+    Unused,
 }
 
 impl Broken {
@@ -74,7 +74,7 @@ impl Broken {
         Broken::ResourceTwice,
         Broken::StreamTwice,
         Broken::NotSpent,
-        Broken::Behind,
+        Broken::Unused,
     ];
 }
 
@@ -85,25 +85,29 @@ pub fn read(words: &[u32], slip: Option<Slip>) -> Result<Device, Broken> {
         *place = read_place(block, slip)?;
     }
     device.spent = read_spent(words, slip);
-    let numbers = || device.places.iter().flatten().map(|stream| stream.number);
-    ask(!twice(numbers()), Broken::StreamTwice, slip)?;
+    let live = || device.streams().map(|stream| stream.number);
+    ask(!twice(live()), Broken::StreamTwice, slip)?;
     let asked = if slip == Some(Slip::FirstLiveAsked) { 1 } else { PLACES };
-    let spent = numbers().take(asked).all(|number| taken_as_spent(&device.spent, number, slip));
+    let spent = live().take(asked).all(|number| taken_as_spent(&device.spent, number, slip));
     ask(spent, Broken::NotSpent, slip)?;
-    ask(nothing_behind(words, slip), Broken::Behind, slip)?;
-    if slip == Some(Slip::SpentHasToLive) {
-        let live = device.spent.numbers().all(|spent| numbers().any(|number| number == spent));
-        ask(live, Broken::NotSpent, None)?;
-    }
-    if slip == Some(Slip::HolesRefused) {
-        let holes = device
-            .places
-            .iter()
-            .flatten()
-            .any(|stream| has_hole(&stream.input) || has_hole(&stream.output));
-        ask(!holes, Broken::FreeSlot, None)?;
-    }
+    ask(unused_is_zero(words, slip), Broken::Unused, slip)?;
+    ask_too_much(&device, slip)?;
     Ok(device)
+}
+
+/// What only a slip asks of a table.
+fn ask_too_much(device: &Device, slip: Option<Slip>) -> Result<(), Broken> {
+    match slip {
+        Some(Slip::SpentHasToLive) => {
+            let live = device.spent.numbers().all(|number| device.stream(number).is_some());
+            ask(live, Broken::NotSpent, None)
+        }
+        Some(Slip::HolesRefused) => {
+            let mut queues = device.streams().flat_map(|stream| [&stream.input, &stream.output]);
+            ask(!queues.any(|queue| has_hole(&queue.resources)), Broken::FreeSlot, None)
+        }
+        _ => Ok(()),
+    }
 }
 
 /// "The number of every live place is spent, so that it is at most 1,023."
@@ -117,39 +121,47 @@ fn taken_as_spent(spent: &Spent, number: u32, slip: Option<Slip>) -> bool {
     }
 }
 
-/// Whether the words behind the spent numbers are zero.
-fn nothing_behind(words: &[u32], slip: Option<Slip>) -> bool {
-    let (before, rest) = match slip {
-        Some(Slip::BehindTaken(at)) => (&words[BEHIND_AT..at], &words[at + 1..WORDS]),
-        _ => words[BEHIND_AT..WORDS].split_at(0),
-    };
-    all_zero(before) && all_zero(rest)
+/// Whether words 4,128 to 4,159 are zero.
+fn unused_is_zero(words: &[u32], slip: Option<Slip>) -> bool {
+    match slip {
+        Some(Slip::UnusedTaken(at)) => {
+            all_zero(&words[UNUSED_AT..at]) && all_zero(&words[at + 1..WORDS])
+        }
+        _ => all_zero(&words[UNUSED_AT..WORDS]),
+    }
 }
 
+/// "Number n is bit n % 32 of word 4,096 + n / 32", which is how `Spent` has it too.
 fn read_spent(words: &[u32], slip: Option<Slip>) -> Spent {
     let mut spent = Spent::default();
-    for number in 0..NUMBERS as u32 {
-        let (at, bit) = bit_of(number, slip);
-        if words[at] >> bit & 1 == 1 {
-            spent.add(number);
+    match misplaced(slip) {
+        None => spent.0.copy_from_slice(&words[SPENT_AT..UNUSED_AT]),
+        Some(place) => {
+            let stands = |&number: &u32| {
+                let (at, bit) = place(number);
+                words[at] >> bit & 1 == 1
+            };
+            spent.extend(numbers().filter(stands));
         }
     }
     spent
 }
 
-/// The word and the bit of a stream number: "number n is bit n % 32 of word 4,096 + n / 32, the
-/// lowest bit being bit 0".
-pub fn bit_of(number: u32, slip: Option<Slip>) -> (usize, u32) {
-    let (word, bit) = (number / 32, number % 32);
-    let (word, bit) = match slip {
-        Some(Slip::SpentBitsTurned) => (word, 31 - bit),
-        Some(Slip::SpentBytesTurned) => (word, bit ^ 24),
-        Some(Slip::SpentWordsTurned) => (31 - word, bit),
-        Some(Slip::SpentSwapped) => (bit, word),
-        Some(Slip::SpentBehind) => (word + 32, bit),
-        _ => (word, bit),
+/// Where a slip has the bit of a number, by its word and bit; none for all other slips.
+fn misplaced(slip: Option<Slip>) -> Option<impl Fn(u32) -> (usize, u32)> {
+    let moved: fn(usize, u32) -> (usize, u32) = match slip? {
+        Slip::SpentBitsTurned => |word, bit| (word, 31 - bit),
+        Slip::SpentBytesTurned => |word, bit| (word, bit ^ 24),
+        Slip::SpentWordsTurned => |word, bit| (31 - word, bit),
+        Slip::SpentSwapped => |word, bit| (bit as usize, word as u32),
+        Slip::SpentInUnused => |word, bit| (UNUSED_AT - SPENT_AT + word, bit),
+        _ => return None,
     };
-    (SPENT_AT + word as usize, bit)
+    Some(move |number| {
+        let (word, bit) = Spent::bit_of(number);
+        let (word, bit) = moved(word, bit);
+        (SPENT_AT + word, bit)
+    })
 }
 
 fn read_place(block: &[u32], slip: Option<Slip>) -> Result<Option<Stream>, Broken> {
@@ -234,10 +246,19 @@ pub fn write(device: &Device, words: &mut [u32]) {
             Some(stream) => write_place(stream, block),
         }
     }
-    words[SPENT_AT..].fill(0);
-    for number in device.spent.numbers() {
-        let (at, bit) = bit_of(number, device.slip);
-        words[at] |= 1 << bit;
+    write_spent(device, words);
+}
+
+/// The words of the spent numbers, and those without use behind them.
+pub fn write_spent(device: &Device, words: &mut [u32]) {
+    words[SPENT_AT..WORDS].fill(0);
+    match misplaced(device.slip) {
+        None => words[SPENT_AT..UNUSED_AT].copy_from_slice(&device.spent.0),
+        Some(place) => {
+            for (at, bit) in device.spent.numbers().map(place) {
+                words[at] |= 1 << bit;
+            }
+        }
     }
 }
 
@@ -298,7 +319,7 @@ pub fn without_use(device: &Device) -> Vec<usize> {
         }
         unused.extend(start + TAIL_AT..start + BLOCK);
     }
-    unused.extend(BEHIND_AT..WORDS);
+    unused.extend(UNUSED_AT..WORDS);
     unused
 }
 
@@ -326,6 +347,7 @@ fn twice(numbers: impl Iterator<Item = u32>) -> bool {
     false
 }
 
-fn has_hole(queue: &Queue) -> bool {
-    queue.resources.windows(2).any(|pair| pair[0].is_none() && pair[1].is_some())
+/// Whether a free place stands before a used one.
+pub fn has_hole<T>(places: &[Option<T>]) -> bool {
+    places.windows(2).any(|pair| pair[0].is_none() && pair[1].is_some())
 }

@@ -2,11 +2,10 @@
 //! included.
 
 use super::device::*;
-use super::layout::{self, BEHIND_AT, BLOCK, INPUT_AT, OUTPUT_AT, SPENT_AT, WORDS};
+use super::layout::{self, BLOCK, INPUT_AT, OUTPUT_AT, SPENT_AT, UNUSED_AT, WORDS};
 use super::slips::Slip;
 
 /// What a step gives back: a refusal number or 0, with the number of bytes written.
-#[repr(C)]
 #[derive(Clone, Copy, Debug, PartialEq, Eq)]
 pub struct Outcome {
     pub refusal: u32,
@@ -44,7 +43,7 @@ impl Core for OnWords {
             _ => WORDS,
         };
         for (at, word) in table.iter_mut().enumerate().take(end) {
-            if self.0 != Some(Slip::FreshKeepsSpent) || !(SPENT_AT..BEHIND_AT).contains(&at) {
+            if self.0 != Some(Slip::FreshKeepsSpent) || !(SPENT_AT..UNUSED_AT).contains(&at) {
                 *word = 0;
             }
         }
@@ -52,46 +51,58 @@ impl Core for OnWords {
     }
 
     fn command(&self, table: &mut [u32], ticket: u32, frame: &[u8], answers: &mut [u8]) -> Outcome {
-        let slips = |other| self.0 == Some(other);
-        let form = (word(frame, 0), frame.len());
-        let head = head_named(table, frame);
-        let stopped = slips(Slip::QueueHeadStopsQueueing)
-            && form == (RESOURCE_QUEUE, 64)
-            && head.is_some_and(|head| table[head] != 0);
-        let cleared = slips(Slip::ClearSetsQueueHead) && form == (QUEUE_CLEAR, 16);
-        let slip = if stopped { Some(Slip::QueueHeadOf1Taken) } else { self.0 };
-        let outcome = on_words(slip, COMMAND, table, answers, |device, room| {
-            if stopped {
-                let answer = [ticket, 8, INVALID_OPERATION, word(frame, 4)];
-                return (0, answer.into_iter().flat_map(u32::to_le_bytes).collect());
+        match (self.0, word(frame, 0), frame.len()) {
+            (Some(Slip::QueueHeadStopsQueueing), RESOURCE_QUEUE, 64) => {
+                queue_unless_stopped(table, ticket, frame, answers)
             }
-            let done = device.command(ticket, frame, room);
-            (done.refusal, done.written)
-        });
-        if let (true, Some(head), 0) = (cleared, head, outcome.refusal) {
-            table[head] = 1;
+            (Some(Slip::ClearSetsQueueHead), QUEUE_CLEAR, 16) => {
+                clear_and_mark(table, ticket, frame, answers)
+            }
+            _ => on_words(self.0, COMMAND, table, answers, |device, room| {
+                device.command(ticket, frame, room)
+            }),
         }
-        outcome
     }
 
     fn finish(&self, table: &mut [u32], report: &Report, answers: &mut [u8]) -> Outcome {
-        on_words(self.0, FINISH, table, answers, |device, room| {
-            let done = device.finish(report, room);
-            (done.refusal, done.written)
-        })
+        on_words(self.0, FINISH, table, answers, |device, room| device.finish(report, room))
     }
 
     fn drained(&self, table: &mut [u32], stream: u32, answers: &mut [u8]) -> Outcome {
-        on_words(self.0, DRAINED, table, answers, |device, room| {
-            let done = device.drained(stream, room);
-            (done.refusal, done.written)
-        })
+        on_words(self.0, DRAINED, table, answers, |device, room| device.drained(stream, room))
     }
 }
 
 /// One step on a lent table and answer room: test, read, step, write back.
 pub fn step_on_words(table: &mut [u32], act: &Act, room: &mut [u8]) -> Outcome {
     OnWords(None).step(table, act, room)
+}
+
+/// A queueing under `QueueHeadStopsQueueing`.
+fn queue_unless_stopped(
+    table: &mut [u32],
+    ticket: u32,
+    frame: &[u8],
+    answers: &mut [u8],
+) -> Outcome {
+    let stopped = head_named(table, frame).is_some_and(|head| table[head] != 0);
+    let slip = stopped.then_some(Slip::QueueHeadOf1Taken);
+    on_words(slip, COMMAND, table, answers, |device, room| {
+        if !stopped {
+            return device.command(ticket, frame, room);
+        }
+        let answer = [ticket, 8, INVALID_OPERATION, word(frame, 4)];
+        Done::taken(answer.into_iter().flat_map(u32::to_le_bytes).collect())
+    })
+}
+
+/// A clear under `ClearSetsQueueHead`.
+fn clear_and_mark(table: &mut [u32], ticket: u32, frame: &[u8], answers: &mut [u8]) -> Outcome {
+    let outcome = OnWords(None).command(table, ticket, frame, answers);
+    if let (0, Some(head)) = (outcome.refusal, head_named(table, frame)) {
+        table[head] = 1;
+    }
+    outcome
 }
 
 /// Where word 0 of the queue stands that a frame names, if it does.
@@ -113,49 +124,79 @@ fn needed(slip: Option<Slip>, kind: u32) -> usize {
     }
 }
 
-/// "Tested 1, 3, 2, then" the step's own.
+fn refuse(refusal: u32) -> Outcome {
+    Outcome { refusal, written: 0 }
+}
+
+/// A step of this kind, "tested 1, 3, 2, then" the step's own.
 fn on_words(
     slip: Option<Slip>,
     kind: u32,
     table: &mut [u32],
     room: &mut [u8],
-    step: impl FnOnce(&mut Device, usize) -> (u32, Vec<u8>),
+    step: impl FnOnce(&mut Device, usize) -> Done,
 ) -> Outcome {
-    let refuse = |refusal| Outcome { refusal, written: 0 };
     if table.len() < needed(slip, kind) {
         return refuse(1);
     }
+    if table.len() < WORDS {
+        // Only a slip takes so few; to it the rest is zero.
+        let mut whole = table.to_vec();
+        whole.resize(WORDS, 0);
+        let outcome = on_words(slip, kind, &mut whole, room, step);
+        table.copy_from_slice(&whole[..table.len()]);
+        return outcome;
+    }
     if room.len() < ROOM && !slip.is_some_and(|slip| slip.leaves_room_to_device(kind)) {
+        if slip == Some(Slip::ShortRoomSpends) {
+            spend_all_the_same(table, step);
+        }
         return refuse(3);
     }
+    on_enough(slip, kind, table, room, step)
+}
+
+/// A step with words and room enough: the table is tested, read, and written back.
+fn on_enough(
+    slip: Option<Slip>,
+    kind: u32,
+    table: &mut [u32],
+    room: &mut [u8],
+    step: impl FnOnce(&mut Device, usize) -> Done,
+) -> Outcome {
+    let (words, rest) = table.split_at_mut(WORDS);
     let slip = match slip {
         Some(Slip::TakenBy(of, rule)) if of == kind => Some(Slip::Taken(rule)),
         _ => slip,
     };
-    // Only a slip gets here with fewer words.
-    let used = table.len().min(WORDS);
-    let mut words = [0; WORDS];
-    words[..used].copy_from_slice(&table[..used]);
-    let Ok(mut device) = layout::read(&words, slip) else {
+    let Ok(mut device) = layout::read(words, slip) else {
         return refuse(2);
     };
-    if slip == Some(Slip::AllWordsAsked) && table[used..].iter().any(|&word| word != 0) {
+    if slip == Some(Slip::AllWordsAsked) && rest.iter().any(|&word| word != 0) {
         return refuse(2);
     }
-    let (refusal, written) = step(&mut device, room.len());
-    if refusal != 0 {
-        return refuse(refusal);
+    let done = step(&mut device, room.len());
+    if done.refusal != 0 {
+        return refuse(done.refusal);
     }
     if slip == Some(Slip::StepForgets(kind)) {
-        let places = device.clone();
-        device.spent.keep(|number| places.place_of(number).is_some());
+        let live: Vec<u32> = device.streams().map(|stream| stream.number).collect();
+        device.spent.keep(|number| live.contains(&number));
     }
-    layout::write(&device, &mut words);
-    table[..used].copy_from_slice(&words[..used]);
-    let count = written.len().min(room.len());
-    room[..count].copy_from_slice(&written[..count]);
+    layout::write(&device, words);
+    // Only a slip gets here with a room that is too short.
+    let count = done.written.len().min(room.len());
+    room[..count].copy_from_slice(&done.written[..count]);
     if slip == Some(Slip::RoomCleared) {
         room[count..].fill(0);
     }
-    Outcome { refusal: 0, written: written.len() as u32 }
+    Outcome { refusal: 0, written: done.written.len() as u32 }
+}
+
+/// Under `ShortRoomSpends`: of what the step would do with room enough, the spent numbers stay.
+fn spend_all_the_same(table: &mut [u32], step: impl FnOnce(&mut Device, usize) -> Done) {
+    if let Ok(mut device) = layout::read(&table[..WORDS], None) {
+        step(&mut device, ROOM);
+        layout::write_spent(&device, table);
+    }
 }

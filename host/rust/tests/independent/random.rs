@@ -5,7 +5,7 @@
 use super::device::*;
 use super::frames::{self, put, put_long};
 use super::layout::{
-    self, BEHIND_AT, BLOCK, INPUT_AT, OUTPUT_AT, SLOT, SLOTS_AT, SPENT_AT, TAIL_AT, WORDS,
+    self, BLOCK, INPUT_AT, OUTPUT_AT, SLOT, SLOTS_AT, SPENT_AT, TAIL_AT, UNUSED_AT, WORDS,
 };
 
 /// SplitMix64: one number of state, every seed good.
@@ -376,7 +376,7 @@ impl Generator {
         self.not_live(device)
     }
 
-    /// A number that no live stream has, destroyed more often than not.
+    /// A number that no live stream has, half the time that of a destroyed stream, if there is one.
     fn not_live(&mut self, device: &Device) -> u32 {
         match self.rng.below(4) {
             0 => self.high(device),
@@ -395,7 +395,7 @@ impl Generator {
         self.rng.pick(&destroyed)
     }
 
-    /// A number that is not spent, if there is one.
+    /// A number that is not spent; once all are, one above 1,023.
     fn unspent(&mut self, device: &Device) -> u32 {
         for _ in 0..8 {
             let number = match self.rng.below(4) {
@@ -410,7 +410,7 @@ impl Generator {
         }
         let rest = all_unspent(device);
         if rest.is_empty() {
-            return self.rng.below(NUMBERS) as u32;
+            return self.high(device);
         }
         self.rng.pick(&rest)
     }
@@ -427,12 +427,12 @@ impl Generator {
     }
 
     fn live<'d>(&mut self, device: &'d Device) -> Option<&'d Stream> {
-        let count = device.places.iter().flatten().count();
+        let count = device.streams().count();
         if count == 0 {
             return None;
         }
         let chosen = self.rng.below(count);
-        device.places.iter().flatten().nth(chosen)
+        device.streams().nth(chosen)
     }
 
     fn queue_type(&mut self) -> u32 {
@@ -633,7 +633,7 @@ impl Generator {
         }
         let number = self.stream(device);
         let queue_type = self.queue_type();
-        let live = device.places.iter().flatten().find(|stream| stream.number == number);
+        let live = device.stream(number);
         let resource = match live {
             Some(stream) if self.rng.percent(85) => self.absent_resource(queue(stream, queue_type)),
             Some(stream) => self.present_resource(queue(stream, queue_type)),
@@ -790,7 +790,7 @@ impl Generator {
     fn resource_queue(&mut self, device: &Device) -> Vec<u8> {
         let number = self.stream(device);
         let queue_type = self.queue_type();
-        let live = device.places.iter().flatten().find(|stream| stream.number == number);
+        let live = device.stream(number);
         let resource = match live {
             Some(stream) if self.rng.percent(92) => {
                 self.resource_to_queue(queue(stream, queue_type))
@@ -833,7 +833,7 @@ impl Generator {
     fn on_queue(&mut self, kind: u32, device: &Device) -> Vec<u8> {
         let number = self.stream(device);
         let queue_type = self.queue_type();
-        let live = device.places.iter().flatten().find(|stream| stream.number == number);
+        let live = device.stream(number);
         if let (QUEUE_CLEAR, Some(stream), Some(_)) = (kind, live, QueueType::of(queue_type)) {
             if !queue(stream, queue_type).any_queued() {
                 self.edge = Some(match stream.drain {
@@ -850,7 +850,7 @@ impl Generator {
     fn set_params(&mut self, device: &Device) -> Vec<u8> {
         let number = self.stream(device);
         let queue_type = self.queue_type();
-        let live = device.places.iter().flatten().find(|stream| stream.number == number);
+        let live = device.stream(number);
         let coded = live.map_or(0x1000, |stream| stream.coded_format);
         let mut format = if queue_type == INPUT { coded } else { NV12 };
         if self.rng.percent(10) {
@@ -884,7 +884,7 @@ impl Generator {
 
     fn finish(&mut self, device: &Device) -> Act {
         let draining: Vec<&Stream> =
-            device.places.iter().flatten().filter(|stream| stream.drain.is_some()).collect();
+            device.streams().filter(|stream| stream.drain.is_some()).collect();
         let stream = if !draining.is_empty() && self.rng.percent(50) {
             Some(self.rng.pick(&draining))
         } else {
@@ -942,9 +942,7 @@ impl Generator {
 
     fn drained(&mut self, device: &Device) -> Act {
         let ready: Vec<u32> = device
-            .places
-            .iter()
-            .flatten()
+            .streams()
             .filter(|stream| stream.can_be_drained())
             .map(|stream| stream.number)
             .collect();
@@ -1142,13 +1140,9 @@ impl Generator {
         let resources = self.rng.pick(&[0, 10, 50, 90, 100]);
         let queued = self.rng.pick(&[0, 30, 60, 100]);
         let spent = self.rng.pick(&[0, 0, 0, 1, 1, 10, 10, 50, 90, 99, 100]);
-        for number in 0..NUMBERS as u32 {
-            if self.rng.percent(spent) {
-                device.spent.add(number);
-            }
-        }
-        let numbers = self.distinct(&STREAMS, NUMBERS);
-        for (place, number) in device.places.iter_mut().zip(numbers) {
+        device.spent.extend(numbers().filter(|_| self.rng.percent(spent)));
+        let chosen = self.distinct(&STREAMS, NUMBERS);
+        for (place, number) in device.places.iter_mut().zip(chosen) {
             if self.rng.percent(streams) {
                 device.spent.add(number);
                 let coded_format = self.coded_format();
@@ -1226,7 +1220,7 @@ impl Generator {
     /// So many words are not enough for a table.
     pub fn short_length(&mut self) -> usize {
         let edge = self.rng.pick(&[SPENT_AT - 1, SPENT_AT, WORDS - 1]);
-        let other = self.rng.pick(&[0, 1, 512, BEHIND_AT]);
+        let other = self.rng.pick(&[0, 1, 512, UNUSED_AT]);
         let any = self.rng.below(WORDS);
         self.rng.pick(&[edge, edge, edge, other, any])
     }
@@ -1249,18 +1243,18 @@ impl Generator {
             }
             6 => table[BLOCK * self.rng.below(PLACES) + 1] = table[block + 1],
             7 => table[block + self.rng.within(TAIL_AT, BLOCK - 1)] = odd,
-            8 => table[self.rng.within(SPENT_AT, BEHIND_AT - 1)] = self.rng.word(),
-            9 => return self.spoil_behind(table),
+            8 => table[self.rng.within(SPENT_AT, UNUSED_AT - 1)] = self.rng.word(),
+            9 => return self.spoil_unused(table),
             10 | 11 => return self.spoil_number(table),
             _ => return self.spoil_head(table),
         }
         None
     }
 
-    /// Changes a word behind the spent numbers, the first or the last one more often.
-    fn spoil_behind(&mut self, table: &mut [u32]) -> Option<&'static str> {
-        let any = (self.rng.within(BEHIND_AT, WORDS - 1), None);
-        let first = (BEHIND_AT, Some("word 4,128 not 0"));
+    /// Changes one of words 4,128 to 4,159, the first or the last one more often.
+    fn spoil_unused(&mut self, table: &mut [u32]) -> Option<&'static str> {
+        let any = (self.rng.within(UNUSED_AT, WORDS - 1), None);
+        let first = (UNUSED_AT, Some("word 4,128 not 0"));
         let last = (WORDS - 1, Some("word 4,159 not 0"));
         let (at, edge) = self.rng.pick(&[first, last, any, any]);
         table[at] = self.rng.pick(&[1, 2, 0x8000_0000, 0xffff_ffff]);
@@ -1274,8 +1268,8 @@ impl Generator {
         let number = table[block + 1];
         let (changed, edge) = match self.rng.below(6) {
             0 | 1 => {
-                let (at, bit) = layout::bit_of(number, None);
-                table[at] &= !(1 << bit);
+                let (at, bit) = Spent::bit_of(number);
+                table[SPENT_AT + at] &= !(1 << bit);
                 (number, "live number not spent")
             }
             2 => (1024, "live number 1,024"),
@@ -1321,7 +1315,7 @@ impl Generator {
 
 /// The numbers that are not spent, in ascending order.
 fn all_unspent(device: &Device) -> Vec<u32> {
-    (0..NUMBERS as u32).filter(|&number| !device.spent.has(number)).collect()
+    numbers().filter(|&number| !device.spent.has(number)).collect()
 }
 
 /// The queue that a number names; any number but the input's is taken for the output here.

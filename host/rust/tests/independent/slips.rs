@@ -3,7 +3,7 @@
 
 use super::coverage::{OWED, REASONS, SUCCESSES, UNKNOWN};
 use super::device::*;
-use super::layout::{Broken, BEHIND_AT, SPENT_AT, WORDS};
+use super::layout::{Broken, SPENT_AT, UNUSED_AT, WORDS};
 
 /// One slip. A device has at most one.
 #[derive(Clone, Copy, Debug, PartialEq, Eq)]
@@ -160,6 +160,8 @@ pub enum Slip {
     LateReportTaken(u32),
     /// This kind of report for a destroyed stream is taken for another stream that it fits.
     LateReportLands(u32),
+    /// A finish for a destroyed stream is refused with 5, whatever its flags.
+    LateBeforeFlags,
 
     // Of the table and the room.
     /// A table that breaks this rule is taken.
@@ -187,7 +189,7 @@ pub enum Slip {
     /// A table with a spent number that is not live is not valid.
     SpentHasToLive,
     /// A table is taken whatever this word without use is.
-    BehindTaken(usize),
+    UnusedTaken(usize),
     /// The highest bit of a word stands for its lowest number.
     SpentBitsTurned,
     /// The bytes of a word stand in the other order.
@@ -197,11 +199,13 @@ pub enum Slip {
     /// Number n is bit n / 32 of word n % 32.
     SpentSwapped,
     /// The spent numbers stand where the words have no use.
-    SpentBehind,
+    SpentInUnused,
     /// A table with a free place before a used one is not valid.
     HolesRefused,
     /// The table's validity is tested before the room.
     TableBeforeRoom,
+    /// A creation that is good but for its short room spends its number.
+    ShortRoomSpends,
     /// The room's bytes behind those written are cleared.
     RoomCleared,
     /// This kind of step, or making fresh, refuses a table under so many words.
@@ -233,14 +237,15 @@ impl Slip {
             | Slip::LiveByLastBits
             | Slip::FirstLiveAsked
             | Slip::SpentHasToLive
-            | Slip::BehindTaken(_)
+            | Slip::UnusedTaken(_)
             | Slip::SpentBitsTurned
             | Slip::SpentBytesTurned
             | Slip::SpentWordsTurned
             | Slip::SpentSwapped
-            | Slip::SpentBehind
+            | Slip::SpentInUnused
             | Slip::HolesRefused
             | Slip::TableBeforeRoom
+            | Slip::ShortRoomSpends
             | Slip::RoomCleared
             | Slip::Needs(..)
             | Slip::AllWordsAsked
@@ -267,7 +272,7 @@ impl Slip {
 
 /// The slips of single names; those of the lists, of the types of answers and of the rules are made
 /// from the tables of reasons, answers and rules.
-pub const NAMED: &[Slip] = &[
+const NAMED: &[Slip] = &[
     Slip::EntryCountsIn32Bits,
     Slip::CountsBehindPlanes,
     Slip::SingleBufferFirstCount,
@@ -337,6 +342,7 @@ pub const NAMED: &[Slip] = &[
     Slip::LateReportTaken(DRAINED),
     Slip::LateReportLands(FINISH),
     Slip::LateReportLands(DRAINED),
+    Slip::LateBeforeFlags,
     Slip::QueueHeadTaken(QueueType::Input),
     Slip::QueueHeadTaken(QueueType::Output),
     Slip::QueueHeadOf1Taken,
@@ -348,23 +354,49 @@ pub const NAMED: &[Slip] = &[
     Slip::LiveByLastBits,
     Slip::FirstLiveAsked,
     Slip::SpentHasToLive,
-    Slip::BehindTaken(BEHIND_AT),
-    Slip::BehindTaken(WORDS - 1),
+    Slip::UnusedTaken(UNUSED_AT),
+    Slip::UnusedTaken(WORDS - 1),
     Slip::SpentBitsTurned,
     Slip::SpentBytesTurned,
     Slip::SpentWordsTurned,
     Slip::SpentSwapped,
-    Slip::SpentBehind,
+    Slip::SpentInUnused,
     Slip::HolesRefused,
     Slip::TableBeforeRoom,
+    Slip::ShortRoomSpends,
     Slip::RoomCleared,
     Slip::AllWordsAsked,
     Slip::FreshFills(SPENT_AT),
-    Slip::FreshFills(BEHIND_AT),
+    Slip::FreshFills(UNUSED_AT),
     Slip::FreshFills(WORDS - 1),
     Slip::FreshFills(WORDS + 1),
     Slip::FreshKeepsSpent,
     Slip::FreshAllWords,
+];
+
+/// Tests in the wrong order or with a wrong number; those of a creation's number are in `of_numbers`.
+const OF_TESTS: &[Slip] = &[
+    Slip::First(COMMAND, "command under 8 bytes"),
+    Slip::First(STREAM_DRAIN, "stream not live"),
+    Slip::First(STREAM_CREATE, "no place"),
+    Slip::First(RESOURCE_CREATE, "number present"),
+    Slip::First(RESOURCE_CREATE, "no place"),
+    Slip::Last(RESOURCE_CREATE, "number present"),
+    Slip::First(RESOURCE_QUEUE, "number absent"),
+    Slip::First(RESOURCE_QUEUE, "an input while draining"),
+    Slip::Last(RESOURCE_QUEUE, "an input while draining"),
+    Slip::First(SET_PARAMS, "any of that queue Queued"),
+    Slip::First(QUERY_CONTROL, "unsupported control"),
+    Slip::First(SET_CONTROL, "stream not live"),
+    Slip::First(FINISH, "no buffer now Queued"),
+    Slip::Last(FINISH, "no buffer now Queued"),
+    Slip::Last(FINISH, "flags outside ERR and EOS"),
+    Slip::Gives(STREAM_CREATE, "no place", INVALID_PARAMETER),
+    Slip::Gives(RESOURCE_CREATE, "no place", INVALID_RESOURCE),
+    Slip::Gives(RESOURCE_CREATE, "number present", INVALID_PARAMETER),
+    Slip::Gives(RESOURCE_QUEUE, "already Queued", INVALID_RESOURCE),
+    Slip::Gives(STREAM_DRAIN, "already draining", INVALID_PARAMETER),
+    Slip::Gives(FINISH, "EOS with no drain owed", 5),
 ];
 
 /// The fields of a creation, by the tests made of them.
@@ -379,50 +411,35 @@ const FIELDS: [Why; 5] = [
 /// The tests of a creation's number.
 const OF_NUMBER: [Why; 2] = ["number spent", "number above 1,023"];
 
-/// Each rule of a valid table left out, for some by one kind of step alone, each test left out, some
-/// in the wrong order or with a wrong number, each answer of 0x0200 or 0x0202 with the other of them,
-/// those of a creation's number and of the table's length, and the named ones.
+/// Every slip that has to be caught.
 pub fn all() -> Vec<Slip> {
     let mut slips: Vec<Slip> = Broken::ALL.into_iter().map(Slip::Taken).collect();
-    // Two reasons are left out: the first test of all is no list, and a drained report for no
-    // stream is refused in the same way as one with no drain owed.
-    let of_lists = REASONS
-        .iter()
-        .filter(|&&(kind, why, _)| kind != UNKNOWN && (kind, why) != (DRAINED, "no such stream"));
-    slips.extend(of_lists.map(|&(kind, why, _)| Slip::Skipped(kind, why)));
-    slips.extend([
-        Slip::First(COMMAND, "command under 8 bytes"),
-        Slip::First(STREAM_DRAIN, "stream not live"),
-        Slip::First(STREAM_CREATE, "no place"),
-        Slip::First(RESOURCE_CREATE, "number present"),
-        Slip::First(RESOURCE_CREATE, "no place"),
-        Slip::Last(RESOURCE_CREATE, "number present"),
-        Slip::First(RESOURCE_QUEUE, "number absent"),
-        Slip::First(RESOURCE_QUEUE, "an input while draining"),
-        Slip::Last(RESOURCE_QUEUE, "an input while draining"),
-        Slip::First(SET_PARAMS, "any of that queue Queued"),
-        Slip::First(QUERY_CONTROL, "unsupported control"),
-        Slip::First(SET_CONTROL, "stream not live"),
-        Slip::First(FINISH, "no buffer now Queued"),
-        Slip::Last(FINISH, "no buffer now Queued"),
-        Slip::Last(FINISH, "flags outside ERR and EOS"),
-        Slip::Gives(STREAM_CREATE, "no place", INVALID_PARAMETER),
-        Slip::Gives(RESOURCE_CREATE, "no place", INVALID_RESOURCE),
-        Slip::Gives(RESOURCE_CREATE, "number present", INVALID_PARAMETER),
-        Slip::Gives(RESOURCE_QUEUE, "already Queued", INVALID_RESOURCE),
-        Slip::Gives(STREAM_DRAIN, "already draining", INVALID_PARAMETER),
-        Slip::Gives(FINISH, "EOS with no drain owed", 5),
-    ]);
-    slips.extend(OWED.iter().map(|&(kind, code)| match code {
-        OK_RESOURCE_QUEUE => Slip::BufferOfPlainType(kind),
-        _ => Slip::DrainOfBufferType(kind),
-    }));
-    let plain = SUCCESSES.iter().filter(|&&(_, code)| code == OK_NODATA);
-    slips.extend(plain.map(|&(kind, _)| Slip::SuccessOfBufferType(kind)));
+    slips.extend(of_skipped_tests());
+    slips.extend(OF_TESTS);
+    slips.extend(of_answers());
     slips.extend(of_numbers());
     slips.extend(of_tables());
     slips.extend(NAMED);
     slips
+}
+
+/// Each test left out, but for two: the first test of all is no list, and a drained report for no
+/// stream is refused in the same way as one with no drain owed.
+fn of_skipped_tests() -> impl Iterator<Item = Slip> {
+    let tests = REASONS.iter().map(|&(kind, why, _)| (kind, why));
+    tests
+        .filter(|&(kind, why)| kind != UNKNOWN && (kind, why) != (DRAINED, "no such stream"))
+        .map(|(kind, why)| Slip::Skipped(kind, why))
+}
+
+/// Each answer of 0x0200 or 0x0202 with the other of them.
+fn of_answers() -> Vec<Slip> {
+    let owed = OWED.iter().map(|&(kind, code)| match code {
+        OK_RESOURCE_QUEUE => Slip::BufferOfPlainType(kind),
+        _ => Slip::DrainOfBufferType(kind),
+    });
+    let plain = SUCCESSES.iter().filter(|&&(_, code)| code == OK_NODATA);
+    owed.chain(plain.map(|&(kind, _)| Slip::SuccessOfBufferType(kind))).collect()
 }
 
 /// Those of a creation's number: each of its two tests before the length, behind each field and
@@ -447,7 +464,7 @@ fn of_numbers() -> Vec<Slip> {
 fn of_tables() -> Vec<Slip> {
     let mut slips = Vec::new();
     for kind in [COMMAND, FINISH, DRAINED] {
-        let rules = [Broken::QueueHead, Broken::NotSpent, Broken::Behind];
+        let rules = [Broken::QueueHead, Broken::NotSpent, Broken::Unused];
         slips.extend(rules.map(|rule| Slip::TakenBy(kind, rule)));
     }
     for kind in [FRESH, COMMAND, FINISH, DRAINED] {
