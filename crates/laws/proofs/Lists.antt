@@ -91,6 +91,10 @@ module _ {A : Type 0} where
 
 -- any and all of a list's elements
 module _ {A : Type 0} (p : A → Bool) where
+  -- the first passes, or one of the others; one of either list
+  pub any-first : (x : A) (l : List A) → anyOf p (x ∷ l) ≡ (p x || anyOf p l)
+  any-first x l = decide (p x) (λ e. simp e) (λ e. simp e)
+
   pub any-append : (l m : List A) → anyOf p (l ++ m) ≡ (anyOf p l || anyOf p m)
   any-append [] m = refl
   any-append (x ∷ l) m = decide (p x) (λ e. simp e) (λ e. simp (e, any-append l m))

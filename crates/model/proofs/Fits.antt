@@ -297,8 +297,9 @@ drained-fits n t b d =
 
 -- The walk over the commands
 
-abbrev request : ℕ → ℕ → Option Stream → List ℕ → Request
-request n t self f = record { stream = n; ticket = t; frame = f; self = self }
+-- a request, by its parts
+abbrev pub requestOf : ℕ → ℕ → Option Stream → List ℕ → Request
+requestOf n t self f = record { stream = n; ticket = t; frame = f; self = self }
 
 -- what the ledger makes of a command of type ty
 abbrev completesType : ℕ → List ℕ → Awaited → Bool
@@ -313,15 +314,15 @@ answersLater ty = eqb ty 0x0105 || eqb ty 0x0103
 abbrev FitsType : ℕ → ℕ → ℕ → List ℕ → Option Stream → Reply → Type 0
 FitsType ty n t f self v = Fits (completesType ty f) (awaitedType ty f) n t (me t (answersLater ty)) self v
 
-fail-type : (ty n t : ℕ) (f : List ℕ) (self : Option Stream) (e : ErrorCode) → FitsType ty n t f self (fail (request n t self f) e)
-fail-type ty n t f self e = fail-fits (completesType ty f) (awaitedType ty f) (request n t self f) (answersLater ty) e
+fail-type : (ty n t : ℕ) (f : List ℕ) (self : Option Stream) (e : ErrorCode) → FitsType ty n t f self (fail (requestOf n t self f) e)
+fail-type ty n t f self e = fail-fits (completesType ty f) (awaitedType ty f) (requestOf n t self f) (answersLater ty) e
 
 module _ (n t : ℕ) (f : List ℕ) (b : Stream) (s : Sane (some b)) where
   abbrev FitsLive : ℕ → Reply → Type 0
   FitsLive ty v = FitsType ty n t f (some b) v
 
   abbrev c : Request
-  c = request n t (some b) f
+  c = requestOf n t (some b) f
 
   bad : (ty : ℕ) (e : ErrorCode) → FitsLive ty (fail c e)
   bad ty e = fail-type ty n t f (some b) e
@@ -388,43 +389,43 @@ new-pends format = λ i. record { queued = λ q. nothing q i; drains = [] }
     nothing input = refl
     nothing output = refl
 
-create-fits : (around : Surroundings) (n t : ℕ) (f : List ℕ) → FitsType 0x0101 n t f none (onCreate around (request n t none f))
+create-fits : (around : Surroundings) (n t : ℕ) (f : List ℕ) → FitsType 0x0101 n t f none (onCreate around (requestOf n t none f))
 unfolding onCreate
 create-fits around n t f =
-    tests-all (FitsType 0x0101 n t f none) (fail (request n t none f)) _ (λ e. fail-type 0x0101 n t f none e)
-    (quiet-fits n t (own (request n t none f) success) none (some (newStream (codedFormat f))) refl refl (new-pends (codedFormat f)))
+    tests-all (FitsType 0x0101 n t f none) (fail (requestOf n t none f)) _ (λ e. fail-type 0x0101 n t f none e)
+    (quiet-fits n t (own (requestOf n t none f) success) none (some (newStream (codedFormat f))) refl refl (new-pends (codedFormat f)))
 
 module _ (around : Surroundings) (n t : ℕ) (f : List ℕ) where
   abbrev OfRule : Option Stream → ℕ → Option CommandRule → Type 0
-  OfRule self ty l = FitsType ty n t f self (onRule around (request n t self f) l)
+  OfRule self ty l = FitsType ty n t f self (onRule around (requestOf n t self f) l)
 
   -- a rule, by its length
-  of-rule : (self : Option Stream) (l : CommandRule) → FitsType (l .type) n t f self (onStream around (request n t self f) (l .command) self)
+  of-rule : (self : Option Stream) (l : CommandRule) → FitsType (l .type) n t f self (onStream around (requestOf n t self f) (l .command) self)
       → OfRule self (l .type) (some l)
   of-rule self l h = cond-elim (FitsType (l .type) n t f self) (wrongLength (l .lengthRule) (length f)) (λ _. fail-type (l .type) n t f self invalidParameter) (λ _. h)
 
-  create-rule : (self : Option Stream) → NotAgain around self → FitsType 0x0101 n t f self (onStream around (request n t self f) create self)
+  create-rule : (self : Option Stream) → NotAgain around self → FitsType 0x0101 n t f self (onStream around (requestOf n t self f) create self)
   create-rule none u = cond-elim (FitsType 0x0101 n t f none) (around .unusable) (λ _. fail-type 0x0101 n t f none invalidStream) (λ _. create-fits around n t f)
   create-rule (some b) u = simp u (fail-type 0x0101 n t f (some b) invalidStream)
 
   live-rule : (ty : ℕ) (k : LiveCommand) (self : Option Stream) → Sane self
-      → ((b : Stream) → Sane (some b) → FitsType ty n t f (some b) (onLive k (request n t (some b) f) b)) → FitsType ty n t f self (onStream around (request n t self f) (live k) self)
+      → ((b : Stream) → Sane (some b) → FitsType ty n t f (some b) (onLive k (requestOf n t (some b) f) b)) → FitsType ty n t f self (onStream around (requestOf n t self f) (live k) self)
   live-rule ty k none s h = fail-type ty n t f none invalidStream
   live-rule ty k (some b) s h = h b s
 
-  unsupported : (ty : ℕ) (b : Stream) → Sane (some b) → FitsType ty n t f (some b) (fail (request n t (some b) f) unsupportedControl)
+  unsupported : (ty : ℕ) (b : Stream) → Sane (some b) → FitsType ty n t f (some b) (fail (requestOf n t (some b) f) unsupportedControl)
   unsupported ty b s = fail-type ty n t f (some b) unsupportedControl
 
   -- by the table of commands
   OfStream : Option Stream → CommandRule → Type 0
-  OfStream self l = FitsType (l .type) n t f self (onStream around (request n t self f) (l .command) self)
+  OfStream self l = FitsType (l .type) n t f self (onStream around (requestOf n t self f) (l .command) self)
 
   streams : (self : Option Stream) → NotAgain around self → Sane self → Each (OfStream self) commands
   unfolding OfStream
   streams self u s = (
     create-rule self u,
     (
-      live-rule 0x0102 destroy self s (λ b _. destroy-fits (request n t (some b) f) b),
+      live-rule 0x0102 destroy self s (λ b _. destroy-fits (requestOf n t (some b) f) b),
       (
         live-rule 0x0103 drain self s (drain-live n t f),
         (

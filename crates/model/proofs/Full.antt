@@ -1,30 +1,26 @@
 -- A creation is answered 'out of memory' only where every place holds a stream.
 use mathlib.Core.Path.{_≡_, refl, sym, ap, _∙_}
-use mathlib.Core.Bool.{Bool, true, false, not, _&&_, and-false}
-use mathlib.Core.Option.{Option, some}
+use mathlib.Core.Bool.{Bool, true, false, _&&_, and-false}
+use mathlib.Core.Option.{Option}
 use mathlib.Core.List.{List, [], _∷_}
 use Prim.Native.Nat.{ℕ}
 use native.Mathlib.Omega.{arith}
 use lib.ListN.{length}
 use lib.Dec.{eqb}
-use Rattle.laws.specs.Tests.{within}
 use Rattle.laws.specs.Lists.{howMany}
-use Rattle.laws.specs.InOrder.{byTests}
 use Rattle.laws.proofs.Tests.{never}
 use Rattle.laws.proofs.Lists.{decide, cond-elim}
 use Rattle.field.specs.Field.{field, littleEndian}
-use Rattle.tag.specs.Tag.{createType, createLength, goodTag, tagIn}
-use Rattle.model.specs.Numbers.{firstCoded, lastCoded}
 use Rattle.model.specs.Device.{Stream, Place, vacant, occupied, recordOf, noPlace}
-use Rattle.model.specs.Frames.{create, exactly, CommandRule, _is_ofLength_, ruleOf, wrongLength, commandType, inMemType, outMemType, codedFormat}
+use Rattle.model.specs.Frames.{Command, create, live, ruleOf, wrongLength, commandType}
 use Rattle.model.specs.Answers.{invalidOperation, invalidParameter, responseBytes, readFrom}
 use Rattle.model.specs.Replies.{Reply, Request, fail}
 use Rattle.model.specs.Commands.{Surroundings, withFull, onCreate, onStream, onRule, onCommand}
 use Rattle.model.specs.Steps.{Act, command, finish, drained, serve, DeviceReply, around, eventOf, isCreation, outOfMemoryAt}
 use Rattle.model.specs.Promises.{isLive, FullAtEight}
-use Rattle.model.proofs.Rules.{by-type}
+use Rattle.model.proofs.Rules.{creates, by-creation}
 use Rattle.model.proofs.WellFormed.{well-places}
-use Rattle.model.proofs.Origins.{step-cases}
+use Rattle.model.proofs.Origins.{create-cases, step-cases}
 use Rattle.model.proofs.Seen.{notFull, tellsFull}
 
 abbrev Quiet : Reply → Type 0
@@ -32,17 +28,16 @@ Quiet v = tellsFull v ≡ false
 
 -- no other error says so, and where a place is vacant a creation does not
 create-quiet : (around : Surroundings) (c : Request) → Quiet (onCreate (notFull around) c)
-unfolding onCreate byTests readFrom responseBytes littleEndian field
-create-quiet around c =
-    let f = c .frame in
-    decide (not (eqb (inMemType f) 0)) (λ e. simp e refl) (λ e₁.
-    decide (not (eqb (outMemType f) 0)) (λ e. simp (e₁, e) refl) (λ e₂.
-    decide (not (within (codedFormat f) firstCoded lastCoded)) (λ e. simp (e₁, e₂, e) refl) (λ e₃.
-    decide (not (goodTag (tagIn f))) (λ e. simp (e₁, e₂, e₃, e) refl) (λ e₄. simp (e₁, e₂, e₃, e₄) refl))))
-
-stream-quiet : (around : Surroundings) (c : Request) (self : Option Stream) → Quiet (onStream (notFull around) c create self)
 unfolding readFrom responseBytes littleEndian field
-stream-quiet around c self = cond-elim Quiet (around .unusable) (λ _. refl) (λ _. create-quiet around c)
+create-quiet around c = create-cases Quiet (notFull around) c refl (λ e. never (sym e)) refl
+
+abbrev QuietLine : Bool → Reply → Type 0
+QuietLine creation v = (creation && tellsFull v) ≡ false
+
+stream-quiet : (around : Surroundings) (c : Request) (x : Command) (self : Option Stream) → QuietLine (creates x) (onStream (notFull around) c x self)
+unfolding readFrom responseBytes littleEndian field
+stream-quiet around c create self = cond-elim Quiet (around .unusable) (λ _. refl) (λ _. create-quiet around c)
+stream-quiet around c (live k) self = refl
 
 length-quiet : (c : Request) → Quiet (fail c invalidParameter)
 unfolding readFrom responseBytes littleEndian field
@@ -52,17 +47,15 @@ unknown-quiet : (c : Request) → Quiet (fail c invalidOperation)
 unfolding readFrom responseBytes littleEndian field
 unknown-quiet c = refl
 
-line-quiet : (around : Surroundings) (c : Request) (l : CommandRule) → l .command ≡ create → Quiet (onRule (notFull around) c (some l))
-line-quiet around c l e =
-    decide (wrongLength (l .lengthRule) (length (c .frame))) (λ w. simp w (length-quiet c)) (λ w. simp (w, e) (stream-quiet around c (c .self)))
+quiet-line : (b : Bool) (v : Reply) → Quiet v → QuietLine b v
+quiet-line b v q = ap (λ (x : Bool). b && x) q ∙ and-false b
 
-command-quiet : (around : Surroundings) (c : Request) (ty : ℕ) → (eqb ty 0x0101 && tellsFull (onRule (notFull around) c (ruleOf ty))) ≡ false
+command-quiet : (around : Surroundings) (c : Request) (ty : ℕ) → QuietLine (eqb ty 0x0101) (onRule (notFull around) c (ruleOf ty))
 command-quiet around c =
-    by-type (λ ty l. (eqb ty 0x0101 && tellsFull (onRule (notFull around) c l)) ≡ false) (
-      line-quiet around c (createType is create ofLength exactly createLength) refl,
-      (refl, (refl, (refl, (refl, (refl, (refl, (refl, (refl, (refl, (refl, (refl, tt))))))))))),
-    )
-    (λ ty. ap (λ (b : Bool). eqb ty 0x0101 && b) (unknown-quiet c) ∙ and-false (eqb ty 0x0101))
+    by-creation (λ b l. QuietLine b (onRule (notFull around) c l))
+    (λ l. cond-elim (QuietLine (creates (l .command))) (wrongLength (l .lengthRule) (length (c .frame)))
+    (λ _. quiet-line (creates (l .command)) (fail c invalidParameter) (length-quiet c)) (λ _. stream-quiet around c (l .command) (c .self)))
+    (λ b. quiet-line b (fail c invalidOperation) (unknown-quiet c))
 
 act-quiet : (around : Surroundings) (n : ℕ) (self : Option Stream) (a : Act) → (isCreation a && tellsFull (serve (notFull around) n self a)) ≡ false
 unfolding serve onCommand

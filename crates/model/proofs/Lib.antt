@@ -17,3 +17,4 @@ pub mod Tables
 pub mod Refusals
 pub mod Unchanged
 pub mod SpentForGood
+pub mod SpentExactly

@@ -1,18 +1,21 @@
 -- A property of a reply, of a stream or of the device, by what can give it.
 use Prim.Native.Nat.{ℕ, _+_}
 use mathlib.Core.Path.{_≡_, refl, sym, subst}
-use mathlib.Core.Bool.{true, false, cond}
+use mathlib.Core.Bool.{true, false, cond, not}
 use mathlib.Core.Option.{Option, none, some}
 use mathlib.Core.List.{[], _∷_}
 use lib.ListN.{length}
 use lib.Dec.{eqb, ltb}
+use Rattle.laws.specs.Tests.{within}
 use Rattle.laws.specs.Lists.{isEmpty}
+use Rattle.laws.specs.InOrder.{byTests}
 use Rattle.laws.proofs.Lists.{cond-elim}
-use Rattle.model.specs.Numbers.{tableWords, err, eos}
-use Rattle.model.specs.Device.{QueueType, dequeued, Stream, Device, queueOf, withQueue, withDrain, withSlots, Buffer, queuedIn, bufferOf, setState}
-use Rattle.model.specs.Frames.{QueueCommand, LiveCommand, destroy, drain, control, toQueue, Command, create, live, CommandRule, ruleOf, wrongLength, queueNamed, commandType, queueType}
-use Rattle.model.specs.Answers.{ErrorCode, invalidOperation, invalidStream, invalidParameter, unsupportedControl, bufferDone, drainDone}
-use Rattle.model.specs.Replies.{Reply, refuse, reply, Request, fail}
+use Rattle.tag.specs.Tag.{goodTag, tagIn}
+use Rattle.model.specs.Numbers.{tableWords, firstCoded, lastCoded, err, eos}
+use Rattle.model.specs.Device.{QueueType, dequeued, Stream, Device, newStream, queueOf, withQueue, withDrain, withSlots, Buffer, queuedIn, bufferOf, setState}
+use Rattle.model.specs.Frames.{QueueCommand, LiveCommand, destroy, drain, control, toQueue, Command, create, live, CommandRule, ruleOf, wrongLength, queueNamed, commandType, inMemType, outMemType, codedFormat, queueType}
+use Rattle.model.specs.Answers.{ErrorCode, invalidOperation, outOfMemory, invalidStream, invalidParameter, unsupportedControl, success, bufferDone, drainDone}
+use Rattle.model.specs.Replies.{Reply, refuse, reply, Request, own, fail}
 use Rattle.model.specs.Commands.{Surroundings, onCreate, onDestroy, onDrain, onQueueOf, onNamed, onLive, onStream, onRule, onCommand}
 use Rattle.model.specs.Reports.{timestampOf, badEos, finishBuffer, finishQueue, finishStream, onFinish, endDrain, onDrained}
 use Rattle.model.specs.Steps.{Step, streamOf, DeviceReply, refused, performOf, hostRefusal, stepOn}
@@ -38,6 +41,18 @@ module _ (P : Reply → Type 0) where
       of-rule : (l : Option CommandRule) → P (onRule around c l)
       of-rule none = fails invalidOperation
       of-rule (some l) = cond-elim P (wrongLength (l .lengthRule) (length (c .frame))) (λ _. fails invalidParameter) (λ _. of-stream (l .command) (c .self) refl)
+
+  -- a creation: an error in its fields, no place, or a new stream
+  pub create-cases : (around : Surroundings) (c : Request) → P (fail c invalidParameter) → (around .full ≡ true → P (fail c outOfMemory))
+      → P (reply (own c success ∷ []) (some (newStream (codedFormat (c .frame))))) → P (onCreate around c)
+  unfolding onCreate byTests
+  create-cases around c bad full new =
+      let f = c .frame in
+      cond-elim P (not (eqb (inMemType f) 0)) (λ _. bad) (λ _.
+      cond-elim P (not (eqb (outMemType f) 0)) (λ _. bad) (λ _.
+      cond-elim P (not (within (codedFormat f) firstCoded lastCoded)) (λ _. bad) (λ _.
+      cond-elim P (not (goodTag (tagIn f))) (λ _. bad) (λ _.
+      cond-elim P (around .full) full (λ _. new)))))
 
   -- an error, or a command to the queue that is named
   pub named-cases : (k : QueueCommand) (c : Request) (b : Stream) → P (fail c invalidParameter) → ((q : QueueType) → named c ≡ some q → P (onQueueOf k c b q))

@@ -12,13 +12,13 @@ use Rattle.laws.specs.Tests.{within}
 use Rattle.laws.specs.Lists.{anyOf}
 use Rattle.laws.specs.InOrder.{byTests}
 use Rattle.laws.proofs.Tests.{never}
-use Rattle.laws.proofs.Lists.{decide, cond-elim, eqb-same, none-is, each-map}
+use Rattle.laws.proofs.Lists.{decide, cond-elim, eqb-same, none-is}
 use Rattle.laws.proofs.InOrder.{tests-cases}
 use Rattle.field.specs.Field.{field, littleEndian}
 use Rattle.tag.specs.Tag.{goodTag, tagIn}
 use Rattle.model.specs.Numbers.{tableWords, answerRoom, streamPlaces, streamNumbers, firstCoded, lastCoded}
 use Rattle.model.specs.Device.{Stream, Place, vacant, Device, fresh, recordOf, noPlace, place, putRecord, isSpent, spend, isNew, spentAfter, putBack}
-use Rattle.model.specs.Frames.{LiveCommand, Command, create, live, CommandRule, commands, ruleOf, wrongLength, commandType, inMemType, outMemType, codedFormat}
+use Rattle.model.specs.Frames.{Command, create, live, CommandRule, ruleOf, wrongLength, commandType, inMemType, outMemType, codedFormat}
 use Rattle.model.specs.Answers.{outOfMemory, invalidStream, bytesOf, responseBytes, readFrom, answersIn}
 use Rattle.model.specs.Replies.{Reply, Request, fail}
 use Rattle.model.specs.Commands.{Surroundings, withFull, onCreate, onStream, onRule, onCommand}
@@ -27,7 +27,7 @@ use Rattle.model.specs.Steps.{Act, command, finish, drained, Step, serve
 use Rattle.model.proofs.Places.{put-same, put-other}
 use Rattle.model.proofs.Spent.{spend-length, spend-same, spend-other, spend-again, spend-beyond, none-spent}
 use Rattle.model.proofs.Origins.{step-cases}
-use Rattle.model.proofs.Rules.{by-type}
+use Rattle.model.proofs.Rules.{creates, by-creation}
 
 abbrev withFullness : Surroundings → Surroundings
 withFullness around = withFull true around
@@ -81,8 +81,8 @@ create-full around c h =
     decide (not (within (codedFormat f) firstCoded lastCoded)) (λ e. simp (e₁, e₂, e)) (λ e₃.
     decide (not (goodTag (tagIn f))) (λ e. simp (e₁, e₂, e₃, e)) (λ e₄. never (sym (full-tells c) ∙ (simp (e₁, e₂, e₃, e₄) at h))))))
 
-stream-full : (around : Surroundings) (c : Request) (x : Command) (r : Option Stream) → (x ≡ create → tellsFull (onStream (withFullness around) c x r) ≡ false) → onStream (withFullness around) c x r ≡ onStream (notFull around) c x r
-stream-full around c create self h = of (around .unusable) (h refl)
+stream-full : (around : Surroundings) (c : Request) (x : Command) (r : Option Stream) → (creates x && tellsFull (onStream (withFullness around) c x r)) ≡ false → onStream (withFullness around) c x r ≡ onStream (notFull around) c x r
+stream-full around c create self h = of (around .unusable) h
   where
     of : (u : Bool) → tellsFull (cond u (fail c invalidStream) (onCreate (withFullness around) c)) ≡ false
         → cond u (fail c invalidStream) (onCreate (withFullness around) c) ≡ cond u (fail c invalidStream) (onCreate (notFull around) c)
@@ -91,25 +91,17 @@ stream-full around c create self h = of (around .unusable) (h refl)
 stream-full around c (live k) none h = refl
 stream-full around c (live k) (some b) h = refl
 
--- only the type 0x0101 is a creation
-abbrev SameLine : Surroundings → ℕ → Request → Option CommandRule → Type 0
-SameLine around ty c l = (eqb ty 0x0101 && tellsFull (onRule (withFullness around) c l)) ≡ false → onRule (withFullness around) c l ≡ onRule (notFull around) c l
+abbrev SameLine : Surroundings → Request → Bool → Option CommandRule → Type 0
+SameLine around c creation l = (creation && tellsFull (onRule (withFullness around) c l)) ≡ false → onRule (withFullness around) c l ≡ onRule (notFull around) c l
 
-line-full : (around : Surroundings) (c : Request) (l : CommandRule) → (l .command ≡ create → eqb (l .type) 0x0101 ≡ true) → SameLine around (l .type) c (some l)
-line-full around c l is h =
+line-full : (around : Surroundings) (c : Request) (l : CommandRule) → SameLine around c (creates (l .command)) (some l)
+line-full around c l h =
     decide (wrongLength (l .lengthRule) (length (c .frame)))
     (λ e. simp e)
-    (λ e. simp e (stream-full around c (l .command) (c .self) (λ k. simp (is k, e) at h)))
+    (λ e. simp e (stream-full around c (l .command) (c .self) (simp e at h)))
 
-command-full : (around : Surroundings) (c : Request) (ty : ℕ) → SameLine around ty c (ruleOf ty)
-command-full around c =
-    by-type (λ ty l. SameLine around ty c l)
-    (each-map (λ l. l .command ≡ create → eqb (l .type) 0x0101 ≡ true) (λ l. SameLine around (l .type) c (some l)) (line-full around c) commands
-    (λ _. refl, (no, (no, (no, (no, (no, (no, (no, (no, (no, (no, (no, tt)))))))))))))
-    (λ ty h. refl)
-  where
-    no : {k : LiveCommand} {x : Bool} → live k ≡ create → x ≡ true
-    no e = cc
+command-full : (around : Surroundings) (c : Request) (ty : ℕ) → SameLine around c (eqb ty 0x0101) (ruleOf ty)
+command-full around c = by-creation (SameLine around c) (line-full around c) (λ b h. refl)
 
 act-full : (around : Surroundings) (n : ℕ) (self : Option Stream) (a : Act) → (isCreation a && tellsFull (serve (withFullness around) n self a)) ≡ false → serve (withFullness around) n self a ≡ serve (notFull around) n self a
 unfolding serve onCommand
@@ -172,6 +164,10 @@ module _ (r : Option Stream) (v : Seen) where
   pub self-after : seenAfter r v .self ≡ r
   unfolding seenAfter
   self-after = refl
+
+  pub unusable-after : seenAfter r v .unusable ≡ (v .unusable || isNew (v .self) r)
+  unfolding seenAfter
+  unusable-after = refl
 
   -- a number that may not be taken stays so
   pub still-unusable : v .unusable ≡ true → seenAfter r v .unusable ≡ true

@@ -12,7 +12,7 @@ use borrow.Author.Tests.{eqb-true, ltb-true, ltb-false}
 use Rattle.laws.proofs.Tests.{never}
 use Rattle.laws.proofs.Lists.{decide, eqb-same}
 use Rattle.model.specs.Numbers.{streamNumbers}
-use Rattle.model.specs.Device.{Stream, isSpent, spend, spentAfter}
+use Rattle.model.specs.Device.{Stream, isSpent, spend, isNew, spentAfter}
 
 -- a number that is not kept is not spent, and so a number that is spent is one of those kept
 pub none-beyond : (n : ℕ) (s : List Bool) → length s ≤ n → isSpent n s ≡ false
@@ -64,7 +64,10 @@ none-spent n =
     (λ h. getD-replicate {A = Bool} streamNumbers n false false (ltb-true n streamNumbers h))
     (λ h. none-beyond n (replicate streamNumbers false) (omega (arith, ltb-false n streamNumbers h, length-replicate {A = Bool} streamNumbers false)))
 
--- a step that leaves the record as it was spends nothing
+-- a step that leaves the record as it was brings none, and spends nothing
+pub not-new : (r : Option Stream) → isNew r r ≡ false
+not-new none = refl
+not-new (some b) = refl
+
 pub spent-self : (n : ℕ) (r : Option Stream) (s : List Bool) → spentAfter n r r s ≡ s
-spent-self n none s = refl
-spent-self n (some b) s = refl
+spent-self n r s = simp (not-new r)

@@ -1,7 +1,7 @@
 -- A stream number is spent for good: after a destruction no step of its number is accepted, and none reaches anybody.
 use Prim.Native.Nat.{ℕ}
 use mathlib.Core.Path.{_≡_, refl, sym, ap, _∙_, subst}
-use mathlib.Core.Bool.{true, false, not, _||_, or-true}
+use mathlib.Core.Bool.{true, false, cond, not, _||_, or-true}
 use mathlib.Core.Option.{Option, none, some}
 use mathlib.Core.List.{List, [], _∷_, _++_, head-eq-of-cons-eq, tail-eq-of-cons-eq}
 use lib.ListN.{length, take}
@@ -16,14 +16,14 @@ use Rattle.model.specs.Device.{Stream, Device, recordOf, noPlace}
 use Rattle.model.specs.Frames.{destroy, live, ruleOf, commandType}
 use Rattle.model.specs.Answers.{invalidStream, wordBytes, responseBytes, bytesOf}
 use Rattle.model.specs.Replies.{Reply, Request, fail}
-use Rattle.model.specs.Commands.{Surroundings, onDestroy, onStream, onRule, onCommand}
+use Rattle.model.specs.Commands.{Surroundings, onCreate, onDestroy, onStream, onRule, onCommand}
 use Rattle.model.specs.Reports.{onFinish, onDrained}
 use Rattle.model.specs.Steps.{Act, command, finish, drained, Step, streamOf, serve, DeviceReply, around, performOf, stepOn, Event, eventOf, eventsOf, ownerOf, accepted, belongs}
 use Rattle.model.specs.WellFormed.{wellFormed, goodAct, goodSteps}
 use Rattle.model.specs.Tables.{Layout, Lawful}
 use Rattle.model.specs.Promises.{ReachesNobody, Late, SpentForGood}
 use Rattle.model.proofs.Origins.{command-cases, finish-cases, drained-cases, step-cases}
-use Rattle.model.proofs.Fits.{acceptedReply}
+use Rattle.model.proofs.Fits.{acceptedReply, requestOf}
 use Rattle.model.proofs.Seen.{NotAgain, serve-next, step-runs, room-enough, nextOf, Seen, seen, self-after, still-unusable, Sized, own-seen, other-seen}
 use Rattle.model.proofs.Isolation.{serves-owner, owner-is}
 use Rattle.model.proofs.WellFormed.{well-spent, not-again, stays-well-formed}
@@ -61,7 +61,7 @@ destroy-ends around c u e =
 
 destroy-serves : (around : Surroundings) (n t : ℕ) (f : List ℕ) (self : Option Stream) → NotAgain around self → field 4 f 0 ≡ 0x0102 → Destroys around (serve around n self (command t f))
 unfolding serve
-destroy-serves around n t f self u e = destroy-ends around (record { stream = n; ticket = t; frame = f; self = self }) u e
+destroy-serves around n t f self u e = destroy-ends around (requestOf n t self f) u e
 
 destroy-gone : (d : Device) (s : Step) (t : ℕ) (f : List ℕ) → wellFormed d ≡ true → goodAct (s .act) ≡ true → s .act ≡ command t f → field 4 f 0 ≡ 0x0102
     → accepted (eventOf s (stepOn d s)) ≡ true → Gone (seen (field 4 f 4) (stepOn d s .device))
@@ -78,6 +78,12 @@ destroy-gone d s t f h m a e acc =
         (subst (λ (x : ℕ). Gone (seen x (performOf d (command t f) (some n) .device))) (step-stream-is (command t f) n o)
         (own-gone n d (command t f) (well-spent d h .size) (ended .1) (ended .0)))
 
+-- a creation of the right length, by whether its number may be taken
+pub creation-served : (around : Surroundings) (n t : ℕ) (f : List ℕ) (self : Option Stream) → field 4 f 0 ≡ 0x0101 → length f ≡ 88
+    → serve around n self (command t f) ≡ cond (around .unusable) (fail (requestOf n t self f) invalidStream) (onCreate around (requestOf n t self f))
+unfolding serve onCommand ruleOf
+creation-served around n t f self e l = simp (e, l)
+
 -- Of such a number no step is accepted, and none reaches anybody
 
 abbrev NotTaken : Reply → Type 0
@@ -87,21 +93,15 @@ module _ (around : Surroundings) (u : around .unusable ≡ true) (n : ℕ) where
   gone-rejects : (a : Act) → NotTaken (serve around n none a)
   unfolding serve
   gone-rejects (command t f) =
-      command-cases NotTaken around (record { stream = n; ticket = t; frame = f; self = none }) (λ e. refl) (λ y. never (sym u ∙ y)) (λ k b e. cc)
+      command-cases NotTaken around (requestOf n t none f) (λ e. refl) (λ y. never (sym u ∙ y)) (λ k b e. cc)
   gone-rejects (finish m qt r flags ts) = finish-cases NotTaken n qt r flags ts none refl refl (λ q b i e y. cc)
   gone-rejects (drained m) = drained-cases NotTaken n none refl (λ b t e y. cc)
-
-  -- a creation of the right length is answered 0x0302
-  gone-creation : (t : ℕ) (f : List ℕ) → field 4 f 0 ≡ 0x0101 → length f ≡ 88
-      → serve around n none (command t f) ≡ fail (record { stream = n; ticket = t; frame = f; self = none }) invalidStream
-  unfolding serve onCommand ruleOf
-  gone-creation t f e l = simp (e, l, u)
 
   gone-reaches : (a : Act) (s : Step) (d : Device) → streamOf a ≡ some n
       → ReachesNobody a (eventOf s (record { refusal = serve around n none a .refusal; answers = serve around n none a .answers; device = d }))
   unfolding serve onFinish onDrained responseBytes littleEndian
   gone-reaches (command t f) s d o = λ e l.
-      let is = gone-creation t f e l in (
+      let is : serve around n none (command t f) ≡ fail (requestOf n t none f) invalidStream = creation-served around n t f none e l ∙ simp u in (
         ap (λ (v : Reply). v .refusal) is,
         ap (λ (v : Reply). length (bytesOf (v .answers))) is,
         ap (λ (v : Reply). bytesOf (v .answers)) is ∙ ap (λ (x : ℕ). wordBytes (t ∷ 8 ∷ 0x0302 ∷ x ∷ [])) (step-stream-is (command t f) n o),

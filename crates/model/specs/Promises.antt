@@ -6,13 +6,13 @@ use mathlib.Core.Bool.{Bool, true, false, cond, not, _&&_, _||_}
 use mathlib.Core.List.{List, [], _∷_, _++_, map}
 use lib.ListN.{length, take, drop}
 use lib.Dec.{eqb, ltb, leb}
-use Rattle.laws.specs.Lists.{allOf, Each, howMany}
+use Rattle.laws.specs.Lists.{anyOf, allOf, Each, howMany}
 use Rattle.field.specs.Field.{field}
 use Rattle.model.specs.Numbers.{tableWords, answerRoom}
 use Rattle.model.specs.Device.{Place, vacant, occupied, Device, fresh}
-use Rattle.model.specs.Frames.{streamId}
+use Rattle.model.specs.Frames.{word, streamId}
 use Rattle.model.specs.Answers.{ErrorCode, code, Answer, responseOf, wordBytes, bytesOf, Written, answersIn}
-use Rattle.model.specs.Steps.{Act, command, finish, drained, Step, stepOn, Event, eventOf, accepted, belongs, outOfMemoryAt}
+use Rattle.model.specs.Steps.{Act, command, finish, drained, Step, stepOn, Event, eventOf, answersOf, accepted, belongs, isCreation, outOfMemoryAt}
 use Rattle.model.specs.WellFormed.{wellFormed, goodAct, goodSteps}
 use Rattle.model.specs.Tables.{Layout, Effect, untouched, valid, effect, freshen, tableEvent, tableEvents}
 
@@ -120,7 +120,7 @@ abbrev pub WritesAtMost : Layout → Type 0
 WritesAtMost L = (t : List ℕ) (a : Act) (room : List ℕ) → effect L t a room .written ≤ 1056
 
 -- A stream number is spent for good, so that what comes late for a destroyed stream reaches nobody. The numbers below are 01's, written out, so that a
--- mistake in the device's definitions shows; only the bytes of room go by their name.
+-- mistake in the device's definitions shows; only the words of the table and the bytes of room go by their name.
 
 -- what a step of a destroyed stream's number is answered, where the room is enough: a creation of 88 bytes 0x0302, a report refusal 5, or 6 for flags above 3
 abbrev pub ReachesNobody : Act → Event → Type 0
@@ -138,3 +138,18 @@ abbrev pub SpentForGood : Layout → Type 0
 SpentForGood L =
     (t : List ℕ) (ss : List Step) (before later : List Event) (e : Event) (ticket : ℕ) (f : List ℕ) → valid L t ≡ true → goodSteps ss ≡ true
     → tableEvents L t ss ≡ before ++ e ∷ later → e .step .act ≡ command ticket f → field 4 f 0 ≡ 0x0102 → accepted e ≡ true → Each (Late (field 4 f 4)) later
+
+-- an accepted creation of the number n
+abbrev pub createdAt : ℕ → Event → Bool
+createdAt n e = belongs n e && (isCreation (e .step .act) && accepted e)
+
+-- an event with an answer 0x0302
+abbrev pub saysInvalidStream : Event → Bool
+saysInvalidStream e = anyOf (λ (w : Written). eqb (word (w .response) 0) 0x0302) (answersOf e)
+
+-- from a fresh table: a creation of 88 bytes, with room enough, is answered 0x0302 exactly where its number is above 1,023 or a creation of it was accepted before
+abbrev pub SpentExactly : Layout → Type 0
+SpentExactly L =
+    (t : List ℕ) (ss : List Step) (before later : List Event) (e : Event) (ticket : ℕ) (f : List ℕ) → tableWords ≤ length t → goodSteps ss ≡ true
+    → tableEvents L (freshen L t .table) ss ≡ before ++ e ∷ later → e .step .act ≡ command ticket f → field 4 f 0 ≡ 0x0101 → length f ≡ 88
+    → answerRoom ≤ length (e .step .room) → saysInvalidStream e ≡ (ltb 1023 (field 4 f 4) || anyOf (createdAt (field 4 f 4)) before)

@@ -28,6 +28,7 @@ use Rattle.model.proofs.WellFormed.{well-fresh, well-places, well-spent}
 use Rattle.model.proofs.Tables.{valid-device, valid-used, on-tables, fresh-short, fresh-long}
 use Rattle.model.proofs.Refusals.{only-listed, no-table-refusal}
 use Rattle.model.proofs.SpentForGood.{spent-for-good}
+use Rattle.model.proofs.SpentExactly.{spent-exactly}
 use Rattle.model.proofs.Unchanged.{refusal-changes-nothing, error-changes-nothing, keeps-rest, stays-valid, writes-at-most}
 use Rattle.queue.specs.Words.{slotWords, queueWords}
 use Rattle.table.specs.Spent.{wordNumbers, spentSize, bitsWord, spentWords}
@@ -215,5 +216,6 @@ table-promises =
       onlyListed = only-listed layout;
       noTableRefusal = no-table-refusal layout meets-laws;
       writesAtMost = writes-at-most layout;
+      spentExactly = spent-exactly layout meets-laws;
       spentForGood = spent-for-good layout meets-laws;
     }

@@ -12,7 +12,7 @@ use Rattle.model.specs.Numbers.{tableWords, streamNumbers}
 use Rattle.model.specs.Device.{Device, fresh, isSpent}
 use Rattle.model.specs.WellFormed.{u32, wellFormed}
 use Rattle.model.specs.Tables.{Lawful, valid}
-use Rattle.model.specs.Promises.{FreshShort, FreshLong, RefusalChangesNothing, ErrorChangesNothing, KeepsRest, StaysValid, OnlyListed, NoTableRefusal, WritesAtMost, SpentForGood}
+use Rattle.model.specs.Promises.{FreshShort, FreshLong, RefusalChangesNothing, ErrorChangesNothing, KeepsRest, StaysValid, OnlyListed, NoTableRefusal, WritesAtMost, SpentForGood, SpentExactly}
 use Rattle.model.specs.Condition3.{OnTables}
 use Rattle.table.specs.Spent.{wordNumbers}
 use Rattle.table.specs.Blocks.{blocksSize, encode, layout}
@@ -65,5 +65,7 @@ pub record TablePromises : Type 0 where
   pub noTableRefusal : NoTableRefusal layout
   -- a step writes at most 1,056 bytes
   pub writesAtMost : WritesAtMost layout
+  -- from a fresh table a creation is answered 0x0302 exactly where its number is above 1,023 or a creation of it was accepted before
+  pub spentExactly : SpentExactly layout
   -- after an accepted destruction of a stream no step of its number is accepted, and a report for it reaches nobody
   pub spentForGood : SpentForGood layout
