@@ -14,12 +14,12 @@ use Rattle.laws.specs.Ascending.{notBelow}
 use Rattle.laws.proofs.Lists.{none-is, no-element, keep-ext, keep-const}
 use Rattle.laws.proofs.Ascending.{length-ascending}
 use Rattle.laws.proofs.Stores.{wrote-none, wrote-append}
-use Rattle.model.specs.Device.{QueueType, input, output, dequeued, Slot, resource, Stream, occupied, place, queueOf, withQueue, withSlots, Buffer, buffer, queuedIn, byResource, bufferOf, withDrain}
+use Rattle.model.specs.Device.{QueueType, input, output, dequeued, Slot, resource, Stream, occupied, queueOf, withQueue, drainTicket, withDrain, withSlots, Buffer, buffer, queuedIn, byResource, bufferOf, place}
 use Rattle.model.specs.Frames.{queueNamed}
 use Rattle.model.specs.Answers.{bufferDone, drainDone, Answer, responseType, bytesOf}
 use Rattle.model.specs.Replies.{Reply, refuse, reply}
-use Rattle.model.specs.Commands.{stoppedAnswers, drainAnswers, onDestroy, drainEnded, drainLeft, onClear}
-use Rattle.model.specs.Reports.{timestampOf, badEos, endDrain, onDrained, finishBuffer, finishQueue, onFinish}
+use Rattle.model.specs.Commands.{stoppedAnswers, drainAnswers, onDestroy, drainEnded, withoutEnded, onClear}
+use Rattle.model.specs.Reports.{timestampOf, badEos, finishBuffer, finishQueue, onFinish, endDrain, onDrained}
 use Rattle.model.proofs.Slots.{Distinct}
 use Rattle.model.proofs.Room.{length-queued}
 use Rattle.queue.specs.Search.{slotAt, isQueued, numberIn, ticketIn, timestampIn, findResource, nextQueued}
@@ -43,15 +43,15 @@ answered-done {n} {r} {w = w} {d = d} {e = e} l s is held bytes =
 -- A drained report
 
 module _ (n : ℕ) (b : Stream) where
-  pub drained-none : none ≡ b .draining → onDrained n (some b) ≡ refuse 5 (some b)
+  pub drained-none : none ≡ drainTicket b → onDrained n (some b) ≡ refuse 5 (some b)
   unfolding onDrained
   drained-none e = ap (endDrain n b) (sym e)
 
-  pub drained-busy : (t : ℕ) → some t ≡ b .draining → isEmpty (queuedIn (b .inputs .slots)) ≡ false → onDrained n (some b) ≡ refuse 5 (some b)
+  pub drained-busy : (t : ℕ) → some t ≡ drainTicket b → isEmpty (queuedIn (b .inputs .slots)) ≡ false → onDrained n (some b) ≡ refuse 5 (some b)
   unfolding onDrained
   drained-busy t e h = ap (endDrain n b) (sym e) ∙ rw h
 
-  pub drained-ends : (t : ℕ) → some t ≡ b .draining → isEmpty (queuedIn (b .inputs .slots)) ≡ true → onDrained n (some b) ≡ reply (answerTo t n drainDone ∷ []) (some (withDrain none b))
+  pub drained-ends : (t : ℕ) → some t ≡ drainTicket b → isEmpty (queuedIn (b .inputs .slots)) ≡ true → onDrained n (some b) ≡ reply (answerTo t n drainDone ∷ []) (some (withDrain none b))
   unfolding onDrained
   drained-ends t e h = ap (endDrain n b) (sym e) ∙ rw h
 
@@ -77,10 +77,10 @@ module _ (flags : ℕ) (q : QueueType) (b : Stream) where
   pub eos-input : 2 ≤ flags → q ≡ input → true ≡ badEos flags q b
   eos-input h e = rw (le-leb 2 flags h, e)
 
-  pub eos-draining : (t : ℕ) → 2 ≤ flags → q ≡ output → some t ≡ b .draining → false ≡ badEos flags q b
+  pub eos-draining : (t : ℕ) → 2 ≤ flags → q ≡ output → some t ≡ drainTicket b → false ≡ badEos flags q b
   eos-draining t h e o = rw (le-leb 2 flags h, e, ← o)
 
-  pub eos-no-drain : 2 ≤ flags → q ≡ output → none ≡ b .draining → true ≡ badEos flags q b
+  pub eos-no-drain : 2 ≤ flags → q ≡ output → none ≡ drainTicket b → true ≡ badEos flags q b
   eos-no-drain h e o = rw (le-leb 2 flags h, e, ← o)
 
 -- the timestamp
@@ -206,7 +206,7 @@ module _ {d e : List ℕ} {at r : ℕ} (n : ℕ) where
   pub wrote-drain : (t : ℕ) (x : Option ℕ) → some t ≡ x → Wrote d e at r (plainBytes t (responseType drainDone) n) → Wrote d e at r (bytesOf (drainAnswers n x))
   wrote-drain t x is w = subst (λ (o : Option ℕ). Wrote d e at r (bytesOf (drainAnswers n o))) is (wrote-plain t n drainDone refl w)
 
-  pub wrote-ended : (q : QueueType) (b : Stream) → q ≡ input → Wrote d e at r (bytesOf (drainAnswers n (b .draining))) → Wrote d e at r (bytesOf (drainAnswers n (drainEnded q b)))
+  pub wrote-ended : (q : QueueType) (b : Stream) → q ≡ input → Wrote d e at r (bytesOf (drainAnswers n (drainTicket b))) → Wrote d e at r (bytesOf (drainAnswers n (drainEnded q b)))
   wrote-ended q b is w = subst (λ (x : QueueType). Wrote d e at r (bytesOf (drainAnswers n (drainEnded x b)))) (sym is) w
 
 pub wrote-no-drain : (d : List ℕ) (at n : ℕ) (x : Option ℕ) → none ≡ x → Wrote d d at at (bytesOf (drainAnswers n x))
@@ -216,15 +216,17 @@ pub wrote-unended : (d : List ℕ) (at n : ℕ) (q : QueueType) (b : Stream) →
 wrote-unended d at n q b is = subst (λ (x : QueueType). Wrote d d at at (bytesOf (drainAnswers n (drainEnded x b)))) (sym is) (wrote-none d at)
 
 module _ (n : ℕ) (q : QueueType) (b : Stream) where
-  pub left-input : q ≡ input → placeWords (occupied n (withDrain none b)) ≡ placeWords (occupied n (withDrain (drainLeft q b) b))
+  pub left-input : q ≡ input → placeWords (occupied n (withDrain none b)) ≡ placeWords (occupied n (withoutEnded q b))
   left-input e = rw e
 
-  pub left-output : q ≡ output → placeWords (occupied n b) ≡ placeWords (occupied n (withDrain (drainLeft q b) b))
+  pub left-output : q ≡ output → placeWords (occupied n b) ≡ placeWords (occupied n (withoutEnded q b))
   left-output e = rw e
 
-pub queue-kept : (q : QueueType) (x : Option ℕ) (b : Stream) → queueOf q (withDrain x b) ≡ queueOf q b
-queue-kept input x b = refl
-queue-kept output x b = refl
+-- and its queues stay
+pub queue-kept : (o q : QueueType) (b : Stream) → queueOf o (withoutEnded q b) ≡ queueOf o b
+queue-kept input input b = refl
+queue-kept output input b = refl
+queue-kept o output b = refl
 
 module _ (n t : ℕ) (f : List ℕ) (b : Stream) where
   pub clear-is : (q : QueueType) → onClear (requestTo n t f b) b q ≡ reply (clearAnswers n t q b) (some (clearLeaves q b))

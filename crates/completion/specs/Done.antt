@@ -3,10 +3,10 @@
 use Prim.Native.Nat.{ℕ}
 use mathlib.Core.Path.{_≡_}
 use mathlib.Core.List.{List, [], _∷_, _++_}
-use Rattle.model.specs.Device.{QueueType, input, output, Stream, queueOf, withQueue, withDrain, buffers}
+use Rattle.model.specs.Device.{QueueType, input, output, Stream, queueOf, withQueue, drainTicket, buffers}
 use Rattle.model.specs.Answers.{success, Answer}
 use Rattle.model.specs.Replies.{Reply}
-use Rattle.model.specs.Commands.{stoppedAnswers, drainAnswers, drainEnded, drainLeft, cleared}
+use Rattle.model.specs.Commands.{stoppedAnswers, drainAnswers, drainEnded, withoutEnded, cleared}
 use Rattle.answer.specs.Answer.{answerTo}
 use Rattle.stream.specs.Replied.{Replied}
 
@@ -21,10 +21,10 @@ clearAnswers n t q b = stoppedAnswers n q (buffers q b) ++ (drainAnswers n (drai
 
 -- the record that it leaves
 abbrev pub clearLeaves : QueueType → Stream → Stream
-clearLeaves q b = withQueue q (cleared (queueOf q b)) (withDrain (drainLeft q b) b)
+clearLeaves q b = withQueue q (cleared (queueOf q b)) (withoutEnded q b)
 
 -- the answers of a destroy under the ticket t
 abbrev pub destroyAnswers : ℕ → ℕ → Stream → List Answer
 destroyAnswers n t b =
     stoppedAnswers n input (buffers input b)
-    ++ (stoppedAnswers n output (buffers output b) ++ (drainAnswers n (b .draining) ++ answerTo t n success ∷ []))
+    ++ (stoppedAnswers n output (buffers output b) ++ (drainAnswers n (drainTicket b) ++ answerTo t n success ∷ []))

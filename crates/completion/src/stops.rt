@@ -5,9 +5,9 @@ ghost use mathlib.Core.List.{List, [], _∷_};
 ghost use Prim.Native.Nat.{ℕ, _+_, _<_, _≤_};
 ghost use lib.ListN.{length};
 ghost use Rattle.laws.specs.Stores.{Wrote};
-ghost use Rattle.model.specs.Device.{QueueType as Meant, Queue, Stream, occupied, Buffer, withDrain, queuedIn, byResource, buffers};
+ghost use Rattle.model.specs.Device.{QueueType as Meant, Queue, Stream, occupied, drainTicket, Buffer, queuedIn, byResource, buffers};
 ghost use Rattle.model.specs.Answers.{bytesOf};
-ghost use Rattle.model.specs.Commands.{stoppedAnswers, drainAnswers, onDestroy, drainEnded, drainLeft, onClear};
+ghost use Rattle.model.specs.Commands.{stoppedAnswers, drainAnswers, onDestroy, drainEnded, withoutEnded, onClear};
 ghost use Rattle.model.specs.WellFormed.{distinctSlots};
 ghost use Rattle.queue.specs.Words.{queueWords};
 ghost use Rattle.queue.specs.Search.{slotAt, ticketIn, timestampIn};
@@ -62,7 +62,7 @@ fn clear_words(block: &mut [u32], queue: QueueType)
 // Drops the drain that a clear of the queue ends.
 fn end_drain(block: &mut [u32], queue: QueueType)
     requires { ⌜ length (now block) ≡ 512 ⌝ }
-    ensures { λ _. ⌜ ((n : ℕ) (b : Stream) → now (block .entry) ≡ placeWords (occupied n b) → now (block .exit) ≡ placeWords (occupied n (withDrain (drainLeft (queueTypeOf queue) b) b))) ⌝ }
+    ensures { λ _. ⌜ ((n : ℕ) (b : Stream) → now (block .entry) ≡ placeWords (occupied n b) → now (block .exit) ≡ placeWords (occupied n (withoutEnded (queueTypeOf queue) b))) ⌝ }
 {
     let QueueType::Input = queue else {
         return;
@@ -149,7 +149,7 @@ fn ended_answer(block: &[u32], queue: QueueType, at: usize, stream: u32, room: &
 fn drain_answer(block: &[u32], at: usize, stream: u32, room: &mut [u8]) -> usize
     requires { ⌜ (length (now block) ≡ 512) × (at + 16 ≤ length (now room)) ⌝ }
     ensures bound { λ r. ⌜ r ≤ at + 16 ⌝ }
-    ensures written { λ r. ⌜ ((n : ℕ) (b : Stream) → BlockOf n (now (block .entry)) b → Wrote (now (room .entry)) (now (room .exit)) at r (bytesOf (drainAnswers stream (b .draining)))) ⌝ }
+    ensures written { λ r. ⌜ ((n : ℕ) (b : Stream) → BlockOf n (now (block .entry)) b → Wrote (now (room .entry)) (now (room .exit)) at r (bytesOf (drainAnswers stream (drainTicket b)))) ⌝ }
 {
     let drain = table::pending_drain(block);
     let DrainState::Draining(ticket) = drain else {

@@ -13,7 +13,7 @@ use Rattle.laws.proofs.Tests.{never, both, and-left, and-right}
 use Rattle.laws.proofs.Lists.{decide, eqb-same, keep-comm, keep-append, keep-excluded, all-append, all-keep, howMany-append, howMany-split, howMany-map, howMany-kept}
 use Rattle.laws.proofs.Ascending.{ascending-howMany}
 use Rattle.field.specs.Field.{field, littleEndian}
-use Rattle.model.specs.Device.{QueueType, input, output, Stream, Device, fresh, Buffer, queuedIn, byResource, recordOf}
+use Rattle.model.specs.Device.{QueueType, input, output, Stream, Device, fresh, drainTicket, Buffer, queuedIn, byResource, recordOf}
 use Rattle.model.specs.Frames.{queueNumber}
 use Rattle.model.specs.Answers.{Answer, responseOf, bytesOf, Written, rewritten, answersIn}
 use Rattle.model.specs.Replies.{Reply}
@@ -285,8 +285,8 @@ module _ (p : Outstanding → Bool) where
         arith,
         howMany-buffers 0x100 (queuedIn (b .inputs .slots)),
         howMany-buffers 0x101 (queuedIn (b .outputs .slots)),
-        howMany-append p (outstandingBuffers 0x100 (queuedIn (b .inputs .slots))) (outstandingBuffers 0x101 (queuedIn (b .outputs .slots)) ++ outstandingDrain (b .draining)),
-        howMany-append p (outstandingBuffers 0x101 (queuedIn (b .outputs .slots))) (outstandingDrain (b .draining)),
+        howMany-append p (outstandingBuffers 0x100 (queuedIn (b .inputs .slots))) (outstandingBuffers 0x101 (queuedIn (b .outputs .slots)) ++ outstandingDrain (drainTicket b)),
+        howMany-append p (outstandingBuffers 0x101 (queuedIn (b .outputs .slots))) (outstandingDrain (drainTicket b)),
       )
 
   agree-pending : (d : Device) (l : Ledger) (n : ℕ) → Agree d l → howMany p (outstandingTo n l) ≡ howMany p (outstandingIn (recordOf n (d .places)))

@@ -14,11 +14,11 @@ use Rattle.laws.proofs.Tests.{never}
 use Rattle.laws.proofs.Lists.{cond-elim, eqb-same, eqb-sym, keep-ascending, keep-const, none-is, any-append, empty-is, each-map}
 use Rattle.laws.proofs.InOrder.{tests-cases, tests-all}
 use Rattle.field.specs.Field.{field}
-use Rattle.model.specs.Device.{QueueType, input, output, queued, dequeued, Queue, Stream, newStream, queueOf, withQueue, withDrain, withSlots, Buffer, queuedIn, byResource, buffers, bufferOf, present, addResource, setState, freeAll}
+use Rattle.model.specs.Device.{QueueType, input, output, queued, dequeued, Queue, Stream, newStream, queueOf, withQueue, drainTicket, withDrain, withSlots, Buffer, queuedIn, byResource, buffers, bufferOf, present, addResource, setState, freeAll}
 use Rattle.model.specs.Frames.{QueueCommand, createResource, queueResource, destroyAll, clear, getParameters, setParameters, LiveCommand, destroy, drain, control, toQueue, create, live, CommandRule, commands, ruleOf, wrongLength, queueNumber, queueNamed, codedFormat, resourceId, timestampSent}
 use Rattle.model.specs.Answers.{ErrorCode, invalidOperation, invalidStream, invalidParameter, unsupportedControl, Response, success, bufferDone, drainDone, parameters, failure, Answer}
 use Rattle.model.specs.Replies.{Reply, refuse, reply, Request, own, fail}
-use Rattle.model.specs.Commands.{Surroundings, onCreate, stoppedAnswers, drainAnswers, onDestroy, onDrain, onCreateResource, onQueue, onDestroyAll, drainEnded, drainLeft, cleared, onClear, onGet, onSet, onQueueOf, onLive, onStream, onRule, onCommand}
+use Rattle.model.specs.Commands.{Surroundings, onCreate, stoppedAnswers, drainAnswers, onDestroy, onDrain, onCreateResource, onQueue, onDestroyAll, drainEnded, withoutEnded, cleared, onClear, onGet, onSet, onQueueOf, onLive, onStream, onRule, onCommand}
 use Rattle.model.specs.Reports.{timestampOf, badEos, finishBuffer, finishQueue, finishStream, onFinish, endDrain, onDrained}
 use Rattle.model.specs.Steps.{Act, command, finish, drained, serve}
 use Rattle.model.specs.Ledger.{Awaited, toBuffer, toDrain, awaitedBy, isBufferOf, isDrain, resourceIn, completes, stepTicket, ownTickets}
@@ -36,7 +36,7 @@ Sane (some b) = Distinct (b .inputs .slots) × Distinct (b .outputs .slots)
 -- what is pending by a record
 unfoldable pub holding : Option Stream → View
 holding none = record { queued = λ q. []; drains = [] }
-holding (some b) = record { queued = λ q. buffers q b; drains = toList (b .draining) }
+holding (some b) = record { queued = λ q. buffers q b; drains = toList (drainTicket b) }
 
 abbrev pub isFailure : Response → Bool
 isFailure success = false
@@ -135,7 +135,7 @@ tickets-drain n (some t) = refl
 
 -- what is pending where one queue is changed: that queue's, and the other's as before
 view-with : (q : QueueType) (x : Queue) (b : Stream) (g : QueueType → List Buffer) (d : List ℕ) → byResource (queuedIn (x .slots)) ≡ g q
-    → ((o : QueueType) → eqb (queueNumber q) (queueNumber o) ≡ false → buffers o b ≡ g o) → toList (b .draining) ≡ d
+    → ((o : QueueType) → eqb (queueNumber q) (queueNumber o) ≡ false → buffers o b ≡ g o) → toList (drainTicket b) ≡ d
     → holding (some (withQueue q x b)) ≡ record { queued = g; drains = d }
 unfolding holding
 view-with input x b g d here other e = λ i. record { queued = λ o. at o i; drains = e i }
@@ -151,7 +151,7 @@ view-with output x b g d here other e = λ i. record { queued = λ o. at o i; dr
 
 same-queued : (q : QueueType) (x : Queue) (b : Stream) → queuedIn (x .slots) ≡ queuedIn (queueOf q b .slots) → holding (some (withQueue q x b)) ≡ holding (some b)
 unfolding holding
-same-queued q x b h = view-with q x b (λ o. buffers o b) (toList (b .draining)) (ap byResource h) (λ o _. refl) refl
+same-queued q x b h = view-with q x b (λ o. buffers o b) (toList (drainTicket b)) (ap byResource h) (λ o _. refl) refl
 
 sane-of : (q : QueueType) (b : Stream) → Sane (some b) → Distinct (queueOf q b .slots)
 sane-of input b s = s .0
@@ -183,7 +183,7 @@ buffers-drain d b input = sym (keep-const true (buffers input b))
 buffers-drain d b output = sym (keep-const true (buffers output b))
 
 -- an accepted drain
-drain-fits : (n t : ℕ) (b : Stream) → b .draining ≡ none → Fits (λ x. false) (some toDrain) n t (me t true) (some b) (reply [] (some (withDrain (some t) b)))
+drain-fits : (n t : ℕ) (b : Stream) → drainTicket b ≡ none → Fits (λ x. false) (some toDrain) n t (me t true) (some b) (reply [] (some (withDrain (some t) b)))
 unfolding holding
 drain-fits n t b d =
     record {
@@ -200,13 +200,13 @@ abbrev clears : ℕ → Awaited → Bool
 clears qt w = isBufferOf qt w || (eqb qt 0x100 && isDrain w)
 
 clear-held : (q : QueueType) (b : Stream)
-    → holding (some (withQueue q (cleared (queueOf q b)) (withDrain (drainLeft q b) b))) ≡ viewAfter (clears (queueNumber q)) none 0 true (holding (some b))
+    → holding (some (withQueue q (cleared (queueOf q b)) (withoutEnded q b))) ≡ viewAfter (clears (queueNumber q)) none 0 true (holding (some b))
 unfolding holding
 clear-held input b =
     view-with input (cleared (b .inputs)) (withDrain none b) _ _ (ap byResource (queued-stop (b .inputs .slots)) ∙ sym (keep-const false (buffers input b)))
     (λ o. elim o [ input ↦ λ h. never h | output ↦ λ h. sym (keep-const true (buffers output b)) ]) refl
 clear-held output b =
-    view-with output (cleared (b .outputs)) (withDrain (b .draining) b) _ _ (ap byResource (queued-stop (b .outputs .slots)) ∙ sym (keep-const false (buffers output b)))
+    view-with output (cleared (b .outputs)) b _ _ (ap byResource (queued-stop (b .outputs .slots)) ∙ sym (keep-const false (buffers output b)))
     (λ o. elim o [ input ↦ λ h. sym (keep-const true (buffers input b)) | output ↦ λ h. never h ]) refl
 
 clear-told : (q : QueueType) (n t : ℕ) (b : Stream)
@@ -219,7 +219,7 @@ clear-told output n t b = simp (map-append, tickets-stopped, keep-const true (bu
 clear-fits : (q : QueueType) (n t : ℕ) (b : Stream)
     → Fits (clears (queueNumber q)) none n t (me t false) (some b)
     (reply (stoppedAnswers n q (buffers q b) ++ (drainAnswers n (drainEnded q b) ++ record { ticket = t; stream = n; response = success } ∷ []))
-    (some (withQueue q (cleared (queueOf q b)) (withDrain (drainLeft q b) b))))
+    (some (withQueue q (cleared (queueOf q b)) (withoutEnded q b))))
 clear-fits q n t b =
     record {
       acc = true;
@@ -237,7 +237,7 @@ destroy-fits c b =
     let n = c .stream in
     record {
       acc = true;
-      is = simp (any-append fails, fine-stopped n input (buffers input b), fine-stopped n output (buffers output b), fine-drain n (b .draining));
+      is = simp (any-append fails, fine-stopped n input (buffers input b), fine-stopped n output (buffers output b), fine-drain n (drainTicket b));
       held = λ i. record { queued = λ q. sym (keep-const false (buffers q b)) i; drains = [] };
       told = simp (map-append, tickets-stopped, tickets-drain, keep-const true (buffers input b), keep-const true (buffers output b), append-assoc);
       adds = λ _. refl;
@@ -260,7 +260,7 @@ finish-told q r i b s f = go q refl
     out : keep (isRes r) (buffers q b) ≡ i ∷ []
     out = keep-ascending byRes (isRes r) (queuedIn (queueOf q b .slots)) ∙ ap byResource (queued-only r i (queueOf q b .slots) (sane-of q b s) f) ∙ one-of i
 
-    go : (o : QueueType) → q ≡ o → i .ticket ∷ [] ≡ ticketsOf (pick (finishes (queueNumber q) r) (record { queued = λ x. buffers x b; drains = toList (b .draining) }))
+    go : (o : QueueType) → q ≡ o → i .ticket ∷ [] ≡ ticketsOf (pick (finishes (queueNumber q) r) (record { queued = λ x. buffers x b; drains = toList (drainTicket b) }))
     go input e = simp (e, subst (λ (x : QueueType). keep (isRes r) (buffers x b) ≡ i ∷ []) e out, keep-const false (buffers output b))
     go output e = simp (e, subst (λ (x : QueueType). keep (isRes r) (buffers x b) ≡ i ∷ []) e out, keep-const false (buffers input b))
 
@@ -282,7 +282,7 @@ finish-fits q n r a i b s f k e =
     }
 
 -- an accepted drained report
-drained-fits : (n t : ℕ) (b : Stream) → b .draining ≡ some t
+drained-fits : (n t : ℕ) (b : Stream) → drainTicket b ≡ some t
     → Fits isDrain none n 0 nobody (some b) (reply (record { ticket = t; stream = n; response = drainDone } ∷ []) (some (withDrain none b)))
 unfolding holding
 drained-fits n t b d =
@@ -345,7 +345,7 @@ module _ (n t : ℕ) (f : List ℕ) (b : Stream) (s : Sane (some b)) where
   cleared-live =
       in-queue 0x0107 clear (λ q e.
       subst (λ (x : ℕ). Fits (clears x) none n t (me t false) (some b)
-      (reply (stoppedAnswers n q (buffers q b) ++ (drainAnswers n (drainEnded q b) ++ own c success ∷ [])) (some (withQueue q (cleared (queueOf q b)) (withDrain (drainLeft q b) b)))))
+      (reply (stoppedAnswers n q (buffers q b) ++ (drainAnswers n (drainEnded q b) ++ own c success ∷ [])) (some (withQueue q (cleared (queueOf q b)) (withoutEnded q b)))))
       (sym (named-number (field 4 f 8) q e)) (clear-fits q n t b))
 
   -- a command that neither adds nor completes anything changes one queue at most, and not what is Queued in it
@@ -495,9 +495,9 @@ module _ (n qt r flags ts : ℕ) where
 drained-in : (n : ℕ) (self : Option Stream) → Fits isDrain none n 0 nobody self (onDrained n self)
 unfolding onDrained
 drained-in n none = refuse-fits isDrain none n 0 5 none refl
-drained-in n (some b) = owing (b .draining) refl
+drained-in n (some b) = owing (drainTicket b) refl
   where
-    owing : (d : Option ℕ) → b .draining ≡ d → Fits isDrain none n 0 nobody (some b) (endDrain n b d)
+    owing : (d : Option ℕ) → drainTicket b ≡ d → Fits isDrain none n 0 nobody (some b) (endDrain n b d)
     owing none e = refuse-fits isDrain none n 0 5 (some b) refl
     owing (some t) e =
         cond-elim (Fits isDrain none n 0 nobody (some b)) (isEmpty (queuedIn (b .inputs .slots)))

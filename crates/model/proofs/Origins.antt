@@ -12,7 +12,7 @@ use Rattle.laws.specs.InOrder.{byTests}
 use Rattle.laws.proofs.Lists.{cond-elim}
 use Rattle.tag.specs.Tag.{goodTag, tagIn}
 use Rattle.model.specs.Numbers.{tableWords, firstCoded, lastCoded, err, eos}
-use Rattle.model.specs.Device.{QueueType, dequeued, Stream, Device, newStream, queueOf, withQueue, withDrain, withSlots, Buffer, queuedIn, bufferOf, setState}
+use Rattle.model.specs.Device.{QueueType, dequeued, Stream, Device, newStream, queueOf, withQueue, drainTicket, withDrain, withSlots, Buffer, queuedIn, bufferOf, setState}
 use Rattle.model.specs.Frames.{QueueCommand, LiveCommand, destroy, drain, control, toQueue, Command, create, live, CommandRule, ruleOf, wrongLength, queueNamed, commandType, inMemType, outMemType, codedFormat, queueType}
 use Rattle.model.specs.Answers.{ErrorCode, invalidOperation, outOfMemory, invalidStream, invalidParameter, unsupportedControl, success, bufferDone, drainDone}
 use Rattle.model.specs.Replies.{Reply, refuse, reply, Request, own, fail}
@@ -94,13 +94,13 @@ module _ (P : Reply → Type 0) where
 
   -- refusal 5, or the answer to a pending drain
   pub drained-cases : (n : ℕ) (self : Option Stream) → P (refuse 5 self)
-      → ((b : Stream) (t : ℕ) → self ≡ some b → b .draining ≡ some t → P (reply (record { ticket = t; stream = n; response = drainDone } ∷ []) (some (withDrain none b))))
+      → ((b : Stream) (t : ℕ) → self ≡ some b → drainTicket b ≡ some t → P (reply (record { ticket = t; stream = n; response = drainDone } ∷ []) (some (withDrain none b))))
       → P (onDrained n self)
   unfolding onDrained
   drained-cases n none five h = five
-  drained-cases n (some b) five h = of-drain (b .draining) refl
+  drained-cases n (some b) five h = of-drain (drainTicket b) refl
     where
-      of-drain : (d : Option ℕ) → b .draining ≡ d → P (endDrain n b d)
+      of-drain : (d : Option ℕ) → drainTicket b ≡ d → P (endDrain n b d)
       of-drain none e = five
       of-drain (some t) e =
           let done : Reply = reply (record { ticket = t; stream = n; response = drainDone } ∷ []) (some (withDrain none b)) in

@@ -18,11 +18,11 @@ use Rattle.laws.proofs.InOrder.{tests-all}
 use Rattle.field.specs.Field.{field, littleEndian}
 use Rattle.field.proofs.Laws.{field-after, field-back}
 use Rattle.model.specs.Numbers.{err}
-use Rattle.model.specs.Device.{QueueType, input, output, created, queued, dequeued, Slot, free, resource, Stream, Device, queueOf, Buffer, queuedIn, buffers, bufferOf, recordOf}
+use Rattle.model.specs.Device.{QueueType, input, output, created, queued, dequeued, Slot, free, resource, Stream, Device, queueOf, drainTicket, Buffer, queuedIn, buffers, bufferOf, recordOf}
 use Rattle.model.specs.Frames.{QueueCommand, createResource, queueResource, destroyAll, clear, getParameters, setParameters, LiveCommand, word}
 use Rattle.model.specs.Answers.{ErrorCode, invalidOperation, outOfMemory, invalidStream, invalidResource, invalidParameter, unsupportedControl, Response, success, bufferDone, drainDone, parameters, failure, Answer, wordBytes, responseBytes, responseOf, bytesOf, readFrom, answersIn}
 use Rattle.model.specs.Replies.{Reply, Request, own, fail}
-use Rattle.model.specs.Commands.{Surroundings, stoppedAnswers, drainAnswers, onCreate, onDestroy, onDrain, onCreateResource, onQueue, onDestroyAll, drainEnded, onClear, parameterWords, onGet, onSet, onQueueOf, onLive, onCommand}
+use Rattle.model.specs.Commands.{Surroundings, onCreate, stoppedAnswers, drainAnswers, onDestroy, onDrain, onCreateResource, onQueue, onDestroyAll, drainEnded, onClear, parameterWords, onGet, onSet, onQueueOf, onLive, onCommand}
 use Rattle.model.specs.Steps.{Act, command, finish, drained, Step, serve, DeviceReply, around, stepOn, isError}
 use Rattle.model.specs.WellFormed.{u32, goodSlot, goodDrain, wellFormed, goodAct}
 use Rattle.model.specs.Promises.{asWritten, ReadBack}
@@ -191,10 +191,10 @@ module _ (c : Request) (t : u32 (c .ticket) ≡ true) where
       let n = c .stream in
       let i = stoppedAnswers n input (buffers input b) in
       let o = stoppedAnswers n output (buffers output b) in
-      let d = drainAnswers n (b .draining) in
+      let d = drainAnswers n (drainTicket b) in
       good-append i (o ++ (d ++ own c success ∷ [])) (stopped-readable n input b g)
       (good-append o (d ++ own c success ∷ []) (stopped-readable n output b g)
-      (good-append d (own c success ∷ []) (drain-good n (b .draining) (g .draining)) success-readable))
+      (good-append d (own c success ∷ []) (drain-good n (drainTicket b) (g .draining)) success-readable))
 
   live-readable : (k : LiveCommand) (b : Stream) → GoodStream b → GoodAnswers (onLive k c b)
   unfolding onDrain

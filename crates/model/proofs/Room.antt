@@ -7,11 +7,11 @@ use native.Mathlib.Omega.{arith}
 use lib.ListN.{length, length-append}
 use Rattle.field.specs.Field.{littleEndian}
 use Rattle.model.specs.Numbers.{answerRoom, err}
-use Rattle.model.specs.Device.{QueueType, input, output, created, queued, dequeued, Slot, free, resource, Stream, queueOf, Buffer, queuedIn, buffers, recordOf}
+use Rattle.model.specs.Device.{QueueType, input, output, created, queued, dequeued, Slot, free, resource, Stream, queueOf, drainTicket, Buffer, queuedIn, buffers, recordOf}
 use Rattle.model.specs.Frames.{QueueCommand, createResource, queueResource, destroyAll, clear, getParameters, setParameters, LiveCommand}
 use Rattle.model.specs.Answers.{ErrorCode, Response, success, bufferDone, drainDone, parameters, failure, Answer, responseBytes, bytesOf}
 use Rattle.model.specs.Replies.{Reply, Request, own, fail}
-use Rattle.model.specs.Commands.{Surroundings, stoppedAnswers, drainAnswers, onCreate, onDestroy, onDrain, onCreateResource, onQueue, onDestroyAll, drainEnded, onClear, parameterWords, onGet, onSet, onQueueOf, onLive, onCommand}
+use Rattle.model.specs.Commands.{Surroundings, onCreate, stoppedAnswers, drainAnswers, onDestroy, onDrain, onCreateResource, onQueue, onDestroyAll, drainEnded, onClear, parameterWords, onGet, onSet, onQueueOf, onLive, onCommand}
 use Rattle.model.specs.Reports.{timestampOf}
 use Rattle.model.specs.Steps.{Act, command, finish, drained, serve, DeviceReply, around}
 use Rattle.model.specs.Promises.{FitsRoom}
@@ -90,7 +90,7 @@ destroy-small c b g =
     let n = c .stream in
     let i = stoppedAnswers n input (buffers input b) in
     let o = stoppedAnswers n output (buffers output b) in
-    let d = drainAnswers n (b .draining) in
+    let d = drainAnswers n (drainTicket b) in
     omega (
       arith,
       size-append i (o ++ (d ++ own c success ∷ [])),
@@ -98,7 +98,7 @@ destroy-small c b g =
       size-append d (own c success ∷ []),
       stopped-fit n input b g,
       stopped-fit n output b g,
-      size-drain n (b .draining),
+      size-drain n (drainTicket b),
       size-own c success,
     )
 

@@ -15,10 +15,10 @@ use Rattle.laws.proofs.Lists.{decide, cond-elim, eqb-sym, none-is, all-implied}
 use Rattle.laws.proofs.InOrder.{tests-cases, tests-all}
 use Rattle.field.specs.Field.{field}
 use Rattle.model.specs.Numbers.{streamPlaces, queueSlots, streamNumbers, firstCoded, lastCoded, headerBytes}
-use Rattle.model.specs.Device.{QueueType, input, output, State, created, queued, dequeued, Slot, free, resource, Queue, Stream, Place, vacant, occupied, Device, newQueue, newStream, fresh, queueOf, withQueue, withDrain, withSlots, present, addResource, setState, stopped, stopAll, freeAll, recordOf, noPlace, place, replace, install, putRecord, isSpent, spend, isNew, spentAfter, putBack}
+use Rattle.model.specs.Device.{QueueType, input, output, State, created, queued, dequeued, Slot, free, resource, Queue, Stream, Place, vacant, occupied, Device, fresh, newQueue, newStream, queueOf, withQueue, drainTicket, withDrain, withSlots, present, addResource, setState, stopped, stopAll, freeAll, recordOf, noPlace, place, replace, install, putRecord, isSpent, spend, isNew, spentAfter, putBack}
 use Rattle.model.specs.Frames.{QueueCommand, createResource, queueResource, destroyAll, clear, getParameters, setParameters, LiveCommand, word, streamId, codedFormat, resourceId, timestampSent}
 use Rattle.model.specs.Replies.{Reply, Request, fail}
-use Rattle.model.specs.Commands.{Surroundings, onCreate, onDestroy, onDrain, onCreateResource, onQueue, onDestroyAll, onClear, onGet, onSet, onQueueOf, onLive, onCommand, drainLeft, cleared, goodExtent, badExtent}
+use Rattle.model.specs.Commands.{Surroundings, onCreate, onDestroy, onDrain, onCreateResource, onQueue, onDestroyAll, withoutEnded, cleared, onClear, onGet, goodExtent, badExtent, onSet, onQueueOf, onLive, onCommand}
 use Rattle.model.specs.Steps.{Act, command, finish, drained, streamOf, serve, DeviceReply, around}
 use Rattle.model.specs.WellFormed.{u8, u32, u64, goodState, goodSlot, distinctSlots, goodSlots, goodQueue, goodDrain, goodStream, goodPlace, distinctPlaces, goodPlaces, spentIn, goodSpent, wellFormed, goodAct}
 use Rattle.model.specs.Promises.{StaysWellFormed}
@@ -137,7 +137,7 @@ pub record GoodQueue (q : Queue) : Type 0 where
 
 pub record GoodStream (b : Stream) : Type 0 where
   pub format : within (b .format) firstCoded lastCoded ≡ true
-  pub draining : goodDrain (b .draining) ≡ true
+  pub draining : goodDrain (drainTicket b) ≡ true
   pub inputs : GoodQueue (b .inputs)
   pub outputs : GoodQueue (b .outputs)
 
@@ -164,10 +164,10 @@ is-queue q g = both (are-slots (q .slots) (g .slots)) (both (not-false (goodExte
 pub stream-is : (b : Stream) → goodStream b ≡ true → GoodStream b
 stream-is b h =
     let r₁ = and-right (within (b .format) firstCoded lastCoded) _ h in
-    let r₂ = and-right (goodDrain (b .draining)) _ r₁ in
+    let r₂ = and-right (goodDrain (drainTicket b)) _ r₁ in
     record {
       format = and-left (within (b .format) firstCoded lastCoded) _ h;
-      draining = and-left (goodDrain (b .draining)) _ r₁;
+      draining = and-left (goodDrain (drainTicket b)) _ r₁;
       inputs = queue-is (b .inputs) (and-left (goodQueue (b .inputs)) _ r₂);
       outputs = queue-is (b .outputs) (and-right (goodQueue (b .inputs)) _ r₂);
     }
@@ -191,15 +191,14 @@ good-slots t s b g h =
 good-drain : (d : Option ℕ) (b : Stream) → GoodStream b → goodDrain d ≡ true → GoodStream (withDrain d b)
 good-drain d b g h = record { format = g .format; draining = h; inputs = g .inputs; outputs = g .outputs }
 
-good-clear : (t : QueueType) (b : Stream) → GoodStream b → GoodStream (withQueue t (cleared (queueOf t b)) (withDrain (drainLeft t b) b))
+good-clear : (t : QueueType) (b : Stream) → GoodStream b → GoodStream (withQueue t (cleared (queueOf t b)) (withoutEnded t b))
 good-clear t b g =
     let o = good-queue-of t b g in
-    good-with t _ _ (good-drain (drainLeft t b) b g (left-good t))
-    (record { slots = slots-stop (queueOf t b .slots) (o .slots); width = o .width; height = o .height; rate = o .rate })
+    good-with t _ _ (left-good t) (record { slots = slots-stop (queueOf t b .slots) (o .slots); width = o .width; height = o .height; rate = o .rate })
   where
-    left-good : (x : QueueType) → goodDrain (drainLeft x b) ≡ true
-    left-good input = refl
-    left-good output = g .draining
+    left-good : (x : QueueType) → GoodStream (withoutEnded x b)
+    left-good input = good-drain none b g refl
+    left-good output = g
 
 good-new : (v : ℕ) → within v firstCoded lastCoded ≡ true → GoodStream (newStream v)
 unfolding u32 within

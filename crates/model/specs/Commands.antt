@@ -12,7 +12,7 @@ use Rattle.laws.specs.InOrder.{TestList, accept, _⇒_then_, byTests}
 use Rattle.laws.specs.Lists.{isEmpty, isNone, toList, total}
 use Rattle.tag.specs.Tag.{goodTag, tagIn}
 use Rattle.model.specs.Numbers.{queueSlots, maxPlanes, firstCoded, lastCoded, nv12, err}
-use Rattle.model.specs.Device.{QueueType, input, output, queued, Queue, Stream, newStream, queueOf, withQueue, withDrain, withSlots, Buffer, queuedIn, buffers, bufferOf, present, noSlot, addResource, setState, stopAll, freeAll}
+use Rattle.model.specs.Device.{QueueType, input, output, queued, Queue, Stream, newStream, queueOf, withQueue, drainTicket, withDrain, withSlots, Buffer, queuedIn, buffers, bufferOf, present, noSlot, addResource, setState, stopAll, freeAll}
 use Rattle.model.specs.Frames.{QueueCommand, createResource, queueResource, destroyAll, clear, getParameters, setParameters, LiveCommand, destroy, drain, control, toQueue, Command, create, live, CommandRule, ruleOf, wrongLength, queueNumber, queueNamed, commandType, inMemType, outMemType, codedFormat, queueType, resourceId, planesLayout, numPlanes, numEntries, entriesStart, entries, entryBytes, entryAddr, entryLength, timestampSent, numDataSizes, formatSent, frameWidth, frameHeight, frameRate}
 use Rattle.model.specs.Answers.{ErrorCode, invalidOperation, outOfMemory, invalidStream, invalidResource, invalidParameter, unsupportedControl, success, bufferDone, drainDone, parameters, Answer}
 use Rattle.model.specs.Replies.{Reply, reply, Request, own, fail}
@@ -55,14 +55,14 @@ unfoldable pub onDestroy : Request → Stream → Reply
 onDestroy c b =
     let n = c .stream in
     reply
-    (stoppedAnswers n input (buffers input b) ++ (stoppedAnswers n output (buffers output b) ++ (drainAnswers n (b .draining) ++ own c success ∷ [])))
+    (stoppedAnswers n input (buffers input b) ++ (stoppedAnswers n output (buffers output b) ++ (drainAnswers n (drainTicket b) ++ own c success ∷ [])))
     none
 
 -- 0x0103 drain
 unfoldable pub onDrain : Request → Stream → Reply
 onDrain c b =
     byTests (fail c)
-    (not (isNone (b .draining)) ⇒ invalidOperation then
+    (not (isNone (drainTicket b)) ⇒ invalidOperation then
     accept (reply [] (some (withDrain (some (c .ticket)) b))))
 
 -- one of the first k entries has length 0, or an address + length above 2^64
@@ -94,7 +94,7 @@ isInput output = false
 
 -- an input while draining
 abbrev pub inputDraining : QueueType → Stream → Bool
-inputDraining q b = isInput q && not (isNone (b .draining))
+inputDraining q b = isInput q && not (isNone (drainTicket b))
 
 -- 0x0105 queue: no answer now, the ticket and timestamp are kept
 unfoldable pub onQueue : Request → Stream → QueueType → Reply
@@ -119,13 +119,13 @@ onDestroyAll c b q =
 
 -- the drain that a clear ends: the input queue's clear ends a pending drain, the output queue's none
 abbrev pub drainEnded : QueueType → Stream → Option ℕ
-drainEnded input b = b .draining
+drainEnded input b = drainTicket b
 drainEnded output b = none
 
--- the drain that is pending after it
-abbrev pub drainLeft : QueueType → Stream → Option ℕ
-drainLeft input b = none
-drainLeft output b = b .draining
+-- the record without that drain
+abbrev pub withoutEnded : QueueType → Stream → Stream
+withoutEnded input b = withDrain none b
+withoutEnded output b = b
 
 -- every Queued buffer Dequeued
 abbrev pub cleared : Queue → Queue
@@ -137,7 +137,7 @@ onClear c b q =
     let n = c .stream in
     reply
     (stoppedAnswers n q (buffers q b) ++ (drainAnswers n (drainEnded q b) ++ own c success ∷ []))
-    (some (withQueue q (cleared (queueOf q b)) (withDrain (drainLeft q b) b)))
+    (some (withQueue q (cleared (queueOf q b)) (withoutEnded q b)))
 
 -- the plane count and its 8 pairs of size and stride
 abbrev pub planes : QueueType → Queue → List ℕ

@@ -74,9 +74,13 @@ abbrev pub withQueue : QueueType → Queue → Stream → Stream
 withQueue input q b = record { format = b .format; draining = b .draining; inputs = q; outputs = b .outputs }
 withQueue output q b = record { format = b .format; draining = b .draining; inputs = b .inputs; outputs = q }
 
--- the record with another pending drain, or none
+-- the ticket of its pending drain, or none
+abbrev pub drainTicket : Stream → Option ℕ
+drainTicket b = b .draining
+
+-- the record with a drain pending under that ticket, or with none
 abbrev pub withDrain : Option ℕ → Stream → Stream
-withDrain d b = record { format = b .format; draining = d; inputs = b .inputs; outputs = b .outputs }
+withDrain t b = record { format = b .format; draining = t; inputs = b .inputs; outputs = b .outputs }
 
 -- the queue with other slots
 abbrev pub withSlots : List Slot → Queue → Queue

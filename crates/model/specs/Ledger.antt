@@ -9,7 +9,7 @@ use lib.Dec.{eqb}
 use Rattle.laws.specs.Lists.{keep, howMany, toList}
 use Rattle.laws.specs.Ascending.{ascending}
 use Rattle.field.specs.Field.{field}
-use Rattle.model.specs.Device.{Stream, Buffer, queuedIn}
+use Rattle.model.specs.Device.{Stream, drainTicket, Buffer, queuedIn}
 use Rattle.model.specs.Answers.{Written}
 use Rattle.model.specs.Steps.{Act, command, finish, drained, Event, answersOf, accepted}
 
@@ -194,4 +194,4 @@ outstandingDrain d = map (λ (t : ℕ). outstanding t toDrain) (toList d)
 -- both, or nothing where there is no record
 abbrev pub outstandingIn : Option Stream → List Outstanding
 outstandingIn none = []
-outstandingIn (some b) = outstandingBuffers 0x100 (queuedIn (b .inputs .slots)) ++ (outstandingBuffers 0x101 (queuedIn (b .outputs .slots)) ++ outstandingDrain (b .draining))
+outstandingIn (some b) = outstandingBuffers 0x100 (queuedIn (b .inputs .slots)) ++ (outstandingBuffers 0x101 (queuedIn (b .outputs .slots)) ++ outstandingDrain (drainTicket b))

@@ -6,7 +6,7 @@ use mathlib.Core.List.{[], _∷_}
 use lib.Dec.{ltb, leb}
 use Rattle.laws.specs.Lists.{isEmpty, isNone}
 use Rattle.model.specs.Numbers.{err, eos}
-use Rattle.model.specs.Device.{QueueType, input, output, dequeued, Stream, queueOf, withQueue, withDrain, withSlots, Buffer, queuedIn, bufferOf, setState}
+use Rattle.model.specs.Device.{QueueType, input, output, dequeued, Stream, queueOf, withQueue, drainTicket, withDrain, withSlots, Buffer, queuedIn, bufferOf, setState}
 use Rattle.model.specs.Frames.{queueNamed}
 use Rattle.model.specs.Answers.{bufferDone, drainDone}
 use Rattle.model.specs.Replies.{Reply, refuse, reply}
@@ -19,7 +19,7 @@ timestampOf output i ts = ts
 
 -- EOS on an input, or with no drain pending. Flags above ERR + EOS are refused before.
 abbrev pub badEos : ℕ → QueueType → Stream → Bool
-badEos flags q b = leb eos flags && (isInput q || isNone (b .draining))
+badEos flags q b = leb eos flags && (isInput q || isNone (drainTicket b))
 
 -- a finish of the buffer that the report names, if there is one now Queued
 abbrev pub finishBuffer : ℕ → ℕ → ℕ → ℕ → Stream → QueueType → Option Buffer → Reply
@@ -54,4 +54,4 @@ endDrain n b (some t) =
 -- drained
 unfoldable pub onDrained : ℕ → Option Stream → Reply
 onDrained n none = refuse 5 none
-onDrained n (some b) = endDrain n b (b .draining)
+onDrained n (some b) = endDrain n b (drainTicket b)

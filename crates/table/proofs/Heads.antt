@@ -8,7 +8,7 @@ use lib.ListN.{length, getD, set, length-append}
 use borrow.Author.Tests.{eqb-false}
 use Rattle.laws.specs.Parts.{part, withPart, zeros, pieces}
 use Rattle.laws.proofs.Parts.{zero-length, zero-at, zeros-append, part-mid, withPart-mid}
-use Rattle.model.specs.Device.{Stream, Place, vacant, occupied, newQueue, newStream, withDrain}
+use Rattle.model.specs.Device.{Stream, Place, vacant, occupied, newQueue, newStream, drainTicket, withDrain}
 use Rattle.queue.specs.Words.{queueWords}
 use Rattle.queue.proofs.Records.{queue-length}
 use Rattle.table.specs.Blocks.{drainWords, headWords, placeWords}
@@ -55,11 +55,11 @@ put-drain none z r x y = refl
 put-drain (some t) z r x y = refl
 
 module _ (l : List ℕ) (n : ℕ) (b : Stream) (e : l ≡ placeWords (occupied n b)) where
-  pub drain-absent : getD l 3 0 ≡ 0 → none ≡ b .draining
+  pub drain-absent : getD l 3 0 ≡ 0 → none ≡ drainTicket b
   unfolding placeWords headWords
   drain-absent z = no-drain-words (b .draining) (zeros 3) _ (rw e at z)
 
-  pub drain-pending : (getD l 3 0 ≡ 0 → ⊥) → some (getD l 4 0) ≡ b .draining
+  pub drain-pending : (getD l 3 0 ≡ 0 → ⊥) → some (getD l 4 0) ≡ drainTicket b
   unfolding placeWords headWords
   drain-pending z = ap (λ (x : List ℕ). some (getD x 4 0)) e ∙ drain-words (b .draining) (zeros 3) _ (rw e at z)
 

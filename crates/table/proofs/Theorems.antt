@@ -20,7 +20,7 @@ use Rattle.laws.proofs.Parts.{zeros-append}
 use Rattle.laws.proofs.Pieces.{all-pieces}
 use Rattle.laws.proofs.Same.{same-refl}
 use Rattle.model.specs.Numbers.{tableWords, streamPlaces, streamNumbers, firstCoded, lastCoded}
-use Rattle.model.specs.Device.{created, queued, dequeued, Slot, free, resource, Queue, Stream, Place, vacant, occupied, Device, fresh}
+use Rattle.model.specs.Device.{created, queued, dequeued, Slot, free, resource, Queue, Stream, Place, vacant, occupied, Device, fresh, drainTicket}
 use Rattle.model.specs.Commands.{goodExtent}
 use Rattle.model.specs.WellFormed.{u32, u64, goodSlot, goodSlots, goodQueue, goodDrain, goodPlace, wellFormed}
 use Rattle.model.specs.Tables.{valid}
@@ -45,11 +45,11 @@ good-slots q h = eqb-true (length (q .slots)) 16 (and-left (eqb (length (q .slot
 
 -- the queues of a good record
 module _ (n : ℕ) (b : Stream) (h : goodPlace (occupied n b) ≡ true) where
-  good-rest : goodDrain (b .draining) && (goodQueue (b .inputs) && goodQueue (b .outputs)) ≡ true
+  good-rest : goodDrain (drainTicket b) && (goodQueue (b .inputs) && goodQueue (b .outputs)) ≡ true
   good-rest = and-right (within (b .format) firstCoded lastCoded) _ (and-right (u32 n) _ h)
 
   good-queues : goodQueue (b .inputs) && goodQueue (b .outputs) ≡ true
-  good-queues = and-right (goodDrain (b .draining)) _ good-rest
+  good-queues = and-right (goodDrain (drainTicket b)) _ good-rest
 
   good-inputs : goodQueue (b .inputs) ≡ true
   good-inputs = and-left (goodQueue (b .inputs)) _ good-queues
@@ -152,7 +152,7 @@ narrow-place (occupied n b) h =
     let ins = queueWords (b .inputs) in
     let outs = queueWords (b .outputs) in
     all-append u32 head (ins ++ (outs ++ zeros 336))
-    ∙ both (narrow-head n (b .format) (b .draining) (and-left (u32 n) _ h) (and-left (within (b .format) firstCoded lastCoded) _ (and-right (u32 n) _ h)) (and-left (goodDrain (b .draining)) _ (good-rest n b h)))
+    ∙ both (narrow-head n (b .format) (b .draining) (and-left (u32 n) _ h) (and-left (within (b .format) firstCoded lastCoded) _ (and-right (u32 n) _ h)) (and-left (goodDrain (drainTicket b)) _ (good-rest n b h)))
     (all-append u32 ins (outs ++ zeros 336)
     ∙ both (narrow-queue (b .inputs) (good-inputs n b h)) (all-append u32 outs (zeros 336) ∙ both (narrow-queue (b .outputs) (good-outputs n b h)) (narrow-zeros 336)))
 

@@ -4,7 +4,7 @@ ghost use mathlib.Core.Option.{none, some};
 ghost use Prim.Native.Nat.{ℕ, _≤_};
 ghost use lib.ListN.{length};
 ghost use Rattle.laws.specs.Parts.{zeros};
-ghost use Rattle.model.specs.Device.{Stream, vacant, occupied, newQueue, newStream, withDrain};
+ghost use Rattle.model.specs.Device.{Stream, vacant, occupied, newQueue, newStream, drainTicket, withDrain};
 ghost use Rattle.queue.specs.Words.{queueWords};
 ghost use Rattle.table.specs.Blocks.{queueStart, placeWords};
 ghost use Rattle.protocol.specs.QueueTypes.{queueTypeOf};
@@ -90,7 +90,7 @@ pub fn coded_format(b: &[u32]) -> u32
 // The pending drain of the block's stream.
 pub fn pending_drain(b: &[u32]) -> DrainState
     requires { ⌜ length (now b) ≡ 512 ⌝ }
-    ensures { λ r. ⌜ ((n : ℕ) (s : Stream) → now (b .entry) ≡ placeWords (occupied n s) → drainOf r ≡ s .draining) ⌝ }
+    ensures { λ r. ⌜ ((n : ℕ) (s : Stream) → now (b .entry) ≡ placeWords (occupied n s) → drainOf r ≡ drainTicket s) ⌝ }
 {
     if b[DRAIN] == 0 {
         return DrainState::Idle;

@@ -1,8 +1,9 @@
 -- `completion::clear_words` meets its contract: the drain first, then the queue.
 use mathlib.Core.Path.{ap, _∙_}
+use lib.ListN.{length}
 use borrow.Author.Needs.{needs}
-use Rattle.model.specs.Device.{Queue, occupied, queueOf, withQueue, withDrain}
-use Rattle.model.specs.Commands.{drainLeft, cleared}
+use Rattle.model.specs.Device.{Queue, occupied, queueOf, withQueue}
+use Rattle.model.specs.Commands.{withoutEnded, cleared}
 use Rattle.table.specs.Blocks.{placeWords}
 use Rattle.protocol.specs.QueueTypes.{queueTypeOf}
 use Rattle.table.proofs.Records.{queue-sized, queue-lent}
@@ -43,10 +44,10 @@ returns c n b h =
     let after-stop-all = c .before .before in let after-queue-start = after-stop-all .before .before in
     let after-end-drain = after-queue-start .before .before .before in let start = after-end-drain .before .before .before in
     let q = queueTypeOf (start .args .queue) in
-    let x = withDrain (drainLeft q b) b in
-    queue-lent n x (queue-sized n b (slot-count h)) q _ (after-queue-start .queue-start .ensures .1) _ (after-end-drain .end-drain .ensures n b (h .held)) _
+    let x = withoutEnded q b in
+    queue-lent n x (queue-sized n x (λ o. ap (λ (y : Queue). length (y .slots)) (queue-kept o q b) ∙ slot-count h o)) q _ (after-queue-start .queue-start .ensures .1) _ (after-end-drain .end-drain .ensures n b (h .held)) _
     (cleared (queueOf q x)) (after-stop-all .stop-all .ensures (queueOf q x))
-    ∙ ap (λ (y : Queue). placeWords (occupied n (withQueue q (cleared y) x))) (queue-kept q (drainLeft q b) b)
+    ∙ ap (λ (y : Queue). placeWords (occupied n (withQueue q (cleared y) x))) (queue-kept q q b)
 
 pub clear-words-spec : {M : Type 1} → statement M
 clear-words-spec =

@@ -2,7 +2,7 @@
 use mathlib.Core.Path.{refl}
 use mathlib.Core.List.{[], _∷_, _++_}
 use borrow.Author.Needs.{needs}
-use Rattle.model.specs.Device.{input, output, buffers}
+use Rattle.model.specs.Device.{input, output, drainTicket, buffers}
 use Rattle.model.specs.Answers.{success}
 use Rattle.model.specs.Commands.{stoppedAnswers, drainAnswers}
 use Rattle.answer.specs.Answer.{answerTo}
@@ -32,7 +32,7 @@ returns c n b h =
     let after-stop-queue2 = after-drain-answer .before .before .before .before in let after-stop-queue = after-stop-queue2 .before .before .before .before in
     let start = after-stop-queue .before .before .before .before in
     let outputs = stoppedAnswers (start .args .stream) output (buffers output b) in
-    let drain = drainAnswers (start .args .stream) (b .draining) in
+    let drain = drainAnswers (start .args .stream) (drainTicket b) in
     let itself = answerTo (start .args .ticket) (start .args .stream) success ∷ [] in
     wrote-more (stoppedAnswers (start .args .stream) input (buffers input b)) (outputs ++ (drain ++ itself)) (after-stop-queue .stop-queue .ensures .1 n b h)
     (wrote-more outputs (drain ++ itself) (after-stop-queue2 .stop-queue2 .ensures .1 n b h)

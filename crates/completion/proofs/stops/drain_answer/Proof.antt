@@ -2,6 +2,7 @@
 use mathlib.Core.Path.{sym, ap, _∙_}
 use native.Mathlib.Omega.{arith}
 use borrow.Author.Needs.{needs}
+use Rattle.model.specs.Device.{drainTicket}
 use Rattle.table.specs.Values.{drainOf}
 use Rattle.completion.proofs.Ends.{plain-next, wrote-drain, wrote-no-drain}
 use Rattle.completion.proofs.stops.drain_answer.Statement.{statement}
@@ -30,7 +31,7 @@ returns-2 c =
     let after-put-plain = c .before .before in let after-drain = after-put-plain .before .before .before in
     let after-pending-drain = after-drain .before .before in (
       omega (arith, plain-next _ _ _ (after-put-plain .put-plain .ensures)),
-      λ n b h. wrote-drain _ _ (b .draining) (ap drainOf (sym (after-drain .drain .given .1)) ∙ after-pending-drain .pending-drain .ensures n b (h .held)) (after-put-plain .put-plain .ensures),
+      λ n b h. wrote-drain _ _ (drainTicket b) (ap drainOf (sym (after-drain .drain .given .1)) ∙ after-pending-drain .pending-drain .ensures n b (h .held)) (after-put-plain .put-plain .ensures),
     )
 
 pub drain-answer-spec : {M : Type 1} → statement M
