@@ -1,6 +1,6 @@
 -- Laws of the reports, of a clear and of a destroy on a stream's block.
 use mathlib.Core.Path.{_≡_, refl, sym, ap, _∙_, subst}
-use mathlib.Core.Bool.{true, false, not}
+use mathlib.Core.Bool.{Bool, true, false, not, _&&_, _||_}
 use mathlib.Core.Option.{Option, none, some}
 use mathlib.Core.List.{List, [], _∷_, _++_, append-assoc, append-nil, map-append}
 use Prim.Native.Nat.{ℕ, _+_, _<_, _≤_}
@@ -9,17 +9,18 @@ use native.Mathlib.Numerals.{add-one}
 use lib.ListN.{length, set, length-append}
 use borrow.Author.Tests.{le-ltb, lt-leb, le-leb}
 use Rattle.laws.specs.Stores.{Wrote}
-use Rattle.laws.specs.Lists.{keep, isEmpty}
+use Rattle.laws.specs.Lists.{keep, isEmpty, isNone}
 use Rattle.laws.specs.Ascending.{notBelow}
+use Rattle.laws.proofs.Tests.{never}
 use Rattle.laws.proofs.Lists.{none-is, no-element, keep-ext, keep-const}
 use Rattle.laws.proofs.Ascending.{length-ascending}
 use Rattle.laws.proofs.Stores.{wrote-none, wrote-append}
-use Rattle.model.specs.Device.{QueueType, input, output, dequeued, Slot, resource, Stream, occupied, queueOf, withQueue, drainTicket, withDrain, withSlots, Buffer, buffer, queuedIn, byResource, bufferOf, place}
+use Rattle.model.specs.Device.{QueueType, input, output, dequeued, Slot, resource, Queue, Stream, occupied, queueOf, withQueue, drainTicket, withDrain, lastGiven, withEos, withSlots, Buffer, buffer, queuedIn, byResource, bufferOf, noResource, place}
 use Rattle.model.specs.Frames.{queueNamed}
 use Rattle.model.specs.Answers.{bufferDone, drainDone, Answer, responseType, bytesOf}
 use Rattle.model.specs.Replies.{Reply, refuse, reply}
-use Rattle.model.specs.Commands.{stoppedAnswers, drainAnswers, onDestroy, drainEnded, withoutEnded, onClear}
-use Rattle.model.specs.Reports.{timestampOf, badEos, finishBuffer, finishQueue, onFinish, endDrain, onDrained}
+use Rattle.model.specs.Commands.{stoppedAnswers, drainAnswers, onDestroy, isInput, drainEnded, withoutEnded, onClear}
+use Rattle.model.specs.Reports.{timestampOf, hasEos, badEos, noteEos, finishBuffer, finishQueue, onFinish, drainOver, endDrain, onDrained}
 use Rattle.model.proofs.Slots.{Distinct}
 use Rattle.model.proofs.Room.{length-queued}
 use Rattle.queue.specs.Search.{slotAt, isQueued, numberIn, ticketIn, timestampIn, findResource, nextQueued}
@@ -47,13 +48,24 @@ module _ (n : ℕ) (b : Stream) where
   unfolding onDrained
   drained-none e = ap (endDrain n b) (sym e)
 
-  pub drained-busy : (t : ℕ) → some t ≡ drainTicket b → isEmpty (queuedIn (b .inputs .slots)) ≡ false → onDrained n (some b) ≡ refuse 5 (some b)
+  pub drained-early : (t : ℕ) → some t ≡ drainTicket b → drainOver b ≡ false → onDrained n (some b) ≡ refuse 5 (some b)
   unfolding onDrained
-  drained-busy t e h = ap (endDrain n b) (sym e) ∙ rw h
+  drained-early t e h = ap (endDrain n b) (sym e) ∙ rw h
 
-  pub drained-ends : (t : ℕ) → some t ≡ drainTicket b → isEmpty (queuedIn (b .inputs .slots)) ≡ true → onDrained n (some b) ≡ reply (answerTo t n drainDone ∷ []) (some (withDrain none b))
+  pub drained-ends : (t : ℕ) → some t ≡ drainTicket b → drainOver b ≡ true → onDrained n (some b) ≡ reply (answerTo t n drainDone ∷ []) (some (withDrain none b))
   unfolding onDrained
   drained-ends t e h = ap (endDrain n b) (sym e) ∙ rw h
+
+-- whether a drain is over
+module _ (b : Stream) where
+  pub input-waits : isEmpty (queuedIn (b .inputs .slots)) ≡ false → false ≡ drainOver b
+  input-waits h = rw h
+
+  pub last-came : isEmpty (queuedIn (b .inputs .slots)) ≡ true → lastGiven b ≡ true → true ≡ drainOver b
+  last-came h g = rw (h, g)
+
+  pub last-missing : isEmpty (queuedIn (b .inputs .slots)) ≡ true → lastGiven b ≡ false → noResource (b .outputs .slots) ≡ drainOver b
+  last-missing h g = rw (h, g)
 
 -- A finish report
 
@@ -77,11 +89,36 @@ module _ (flags : ℕ) (q : QueueType) (b : Stream) where
   pub eos-input : 2 ≤ flags → q ≡ input → true ≡ badEos flags q b
   eos-input h e = rw (le-leb 2 flags h, e)
 
-  pub eos-draining : (t : ℕ) → 2 ≤ flags → q ≡ output → some t ≡ drainTicket b → false ≡ badEos flags q b
+  pub eos-draining : (t : ℕ) → 2 ≤ flags → q ≡ output → some t ≡ drainTicket b → lastGiven b ≡ badEos flags q b
   eos-draining t h e o = rw (le-leb 2 flags h, e, ← o)
 
   pub eos-no-drain : 2 ≤ flags → q ≡ output → none ≡ drainTicket b → true ≡ badEos flags q b
   eos-no-drain h e o = rw (le-leb 2 flags h, e, ← o)
+
+  -- EOS that is taken has its drain, also in the record with another queue
+  pub eos-drain : (x : Queue) → badEos flags q b ≡ false → hasEos flags && isNone (drainTicket (withQueue q x b)) ≡ false
+  eos-drain x h = ap (λ (t : Option ℕ). hasEos flags && isNone t) (kept q) ∙ of (hasEos flags) (isInput q) (isNone (drainTicket b)) (lastGiven b) h
+    where
+      kept : (o : QueueType) → drainTicket (withQueue o x b) ≡ drainTicket b
+      kept input = refl
+      kept output = refl
+
+      of : (has ins idle given : Bool) → has && (ins || (idle || given)) ≡ false → has && idle ≡ false
+      of false ins idle given h = refl
+      of true true idle given h = never h
+      of true false true given h = h
+      of true false false given h = refl
+
+-- it is noted
+module _ (flags : ℕ) (b : Stream) where
+  pub eos-noted : 2 ≤ flags → withEos b ≡ noteEos flags b
+  eos-noted h = rw (le-leb 2 flags h)
+
+  pub eos-unnoted : flags < 2 → b ≡ noteEos flags b
+  eos-unnoted h = rw (lt-leb 2 flags h)
+
+  pub eos-due : 2 ≤ flags → hasEos flags && isNone (drainTicket b) ≡ false → isNone (drainTicket b) ≡ false
+  eos-due h z = rw (le-leb 2 flags h) at z
 
 -- the timestamp
 module _ (q : QueueType) (i : Buffer) (ts : ℕ) where
@@ -113,14 +150,14 @@ module _ (n m flags ts : ℕ) (b : Stream) (q : QueueType) where
       pub finish-answers : (ticket told : ℕ) → badEos flags q b ≡ false → ticket ≡ ticketIn (slotAt k (queueOf q b .slots))
           → ((i : Buffer) → i .timestamp ≡ timestampIn (slotAt k (queueOf q b .slots)) → told ≡ timestampOf q i ts)
           → finishBuffer n m flags ts b q (bufferOf m (queuedIn (queueOf q b .slots)))
-          ≡ reply (answerTo ticket n (bufferDone q told flags) ∷ []) (some (withQueue q (withSlots (set (queueOf q b .slots) k (resource (numberIn (slotAt k (queueOf q b .slots))) dequeued)) (queueOf q b)) b))
+          ≡ reply (answerTo ticket n (bufferDone q told flags) ∷ []) (some (noteEos flags (withQueue q (withSlots (set (queueOf q b .slots) k (resource (numberIn (slotAt k (queueOf q b .slots))) dequeued)) (queueOf q b)) b)))
       finish-answers ticket told eos t u =
           let s = queueOf q b .slots in
           let x = slotAt k s in
           let i = buffer m (ticketIn x) (timestampIn x) in
           ap (finishBuffer n m flags ts b q) (find-ticket m k s found z waits)
           ∙ rw eos (λ j. reply (answerTo (sym t j) n (bufferDone q (sym (u i refl) j) flags) ∷ [])
-          (some (withQueue q (withSlots ((find-set m k s found z dequeued ∙ ap (λ (r : ℕ). set s k (resource r dequeued)) (sym (find-number m k s found))) j) (queueOf q b)) b)))
+          (some (noteEos flags (withQueue q (withSlots ((find-set m k s found z dequeued ∙ ap (λ (r : ℕ). set s k (resource r dequeued)) (sym (find-number m k s found))) j) (queueOf q b)) b))))
 
 -- The walk over the Queued buffers of a queue
 

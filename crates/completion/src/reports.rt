@@ -1,13 +1,15 @@
 // The back end's reports: each ends the wait of one buffer or of a drain.
 ghost use mathlib.Core.Path.{_≡_};
-ghost use mathlib.Core.Bool.{true, false};
+ghost use mathlib.Core.Bool.{true, false, _&&_};
 ghost use mathlib.Core.Option.{some};
 ghost use Prim.Native.Nat.{ℕ, _+_, _<_, _≤_};
 ghost use lib.ListN.{length};
-ghost use Rattle.model.specs.Device.{Queue, Stream, Buffer, queueOf, queuedIn, bufferOf};
-ghost use Rattle.model.specs.Reports.{timestampOf, badEos, finishBuffer, onFinish, onDrained};
+ghost use Rattle.laws.specs.Lists.{isNone};
+ghost use Rattle.model.specs.Device.{Queue, Stream, occupied, queueOf, drainTicket, Buffer, queuedIn, bufferOf};
+ghost use Rattle.model.specs.Reports.{timestampOf, hasEos, badEos, noteEos, finishBuffer, onFinish, drainOver, onDrained};
 ghost use Rattle.queue.specs.Words.{queueWords};
 ghost use Rattle.queue.specs.Search.{slotAt, isQueued, timestampIn, findResource};
+ghost use Rattle.table.specs.Blocks.{placeWords};
 ghost use Rattle.protocol.specs.QueueTypes.{queueTypeOf};
 ghost use Rattle.stream.specs.Replied.{BlockOf};
 ghost use Rattle.completion.specs.Done.{Done};
@@ -23,7 +25,7 @@ use queue::Found;
 use queue::QUEUE_WORDS;
 use table::DrainState;
 
-// A drained report: a pending drain is answered where no input is Queued.
+// A drained report: a pending drain is answered where it is over.
 pub fn drained(block: &mut [u32], stream: u32, room: &mut [u8]) -> Outcome
     requires { ⌜ (length (now block) ≡ 512) × (1056 ≤ length (now room)) ⌝ }
     ensures { λ r. ⌜ ((b : Stream) → BlockOf stream (now (block .entry)) b → Done stream (onDrained stream (some b)) (now (block .exit)) (now (room .entry)) (now (room .exit)) (r .refusal) (r .written)) ⌝ }
@@ -32,8 +34,7 @@ pub fn drained(block: &mut [u32], stream: u32, room: &mut [u8]) -> Outcome
     let DrainState::Draining(ticket) = drain else {
         return refused(UNEXPECTED_REPORT);
     };
-    let at = table::queue_start(QueueType::Input);
-    if queue::any_queued(&block[at..at + QUEUE_WORDS]) {
+    if !drain_over(block) {
         return refused(UNEXPECTED_REPORT);
     }
     table::drop_drain(block);
@@ -42,6 +43,22 @@ pub fn drained(block: &mut [u32], stream: u32, room: &mut [u8]) -> Outcome
         refusal: 0,
         written: written as u32,
     }
+}
+
+// Whether no input is Queued, and EOS was given or there is no output resource at all.
+fn drain_over(block: &[u32]) -> bool
+    requires { ⌜ length (now block) ≡ 512 ⌝ }
+    ensures { λ r. ⌜ ((n : ℕ) (b : Stream) → BlockOf n (now (block .entry)) b → r ≡ drainOver b) ⌝ }
+{
+    let from = table::queue_start(QueueType::Input);
+    if queue::any_queued(&block[from..from + QUEUE_WORDS]) {
+        return false;
+    }
+    if table::last_given(block) {
+        return true;
+    }
+    let at = table::queue_start(QueueType::Output);
+    queue::no_resource(&block[at..at + QUEUE_WORDS])
 }
 
 // A finish report whose flags are known: a Queued buffer is answered and becomes Dequeued.
@@ -108,7 +125,7 @@ fn finish_slot(
     answer_slot(block, queue, k, stream, flags, timestamp, room)
 }
 
-// Whether the flags have EOS on an input, or with no drain pending.
+// Whether the flags have EOS on an input, with no drain pending, or a second time for one drain.
 fn bad_eos(block: &[u32], queue: QueueType, flags: u32) -> bool
     requires { ⌜ length (now block) ≡ 512 ⌝ }
     ensures { λ r. ⌜ ((n : ℕ) (b : Stream) → BlockOf n (now (block .entry)) b → r ≡ badEos flags (queueTypeOf queue) b) ⌝ }
@@ -123,7 +140,17 @@ fn bad_eos(block: &[u32], queue: QueueType, flags: u32) -> bool
     let DrainState::Draining(_) = drain else {
         return true;
     };
-    false
+    table::last_given(block)
+}
+
+// Flags with EOS give it for the pending drain.
+fn note_eos(block: &mut [u32], flags: u32)
+    requires { ⌜ length (now block) ≡ 512 ⌝ }
+    ensures { λ _. ⌜ ((n : ℕ) (b : Stream) → now (block .entry) ≡ placeWords (occupied n b) → hasEos flags && isNone (drainTicket b) ≡ false → now (block .exit) ≡ placeWords (occupied n (noteEos flags b))) ⌝ }
+{
+    if flags >= EOS {
+        table::give_eos(block);
+    }
 }
 
 // Answers the Queued buffer in slot k, which becomes Dequeued.
@@ -143,6 +170,7 @@ fn answer_slot(
     let ticket = queue::slot_ticket(&block[at..at + QUEUE_WORDS], k);
     let told = timestamp_in(&block[at..at + QUEUE_WORDS], queue, k, timestamp);
     queue::set_dequeued(&mut block[at..at + QUEUE_WORDS], k);
+    note_eos(block, flags);
     let written = answer::put_buffer(room, 0, ticket, stream, told, flags);
     Outcome {
         refusal: 0,

@@ -6,7 +6,7 @@ use mathlib.Core.Option.{Option, none, some}
 use mathlib.Core.List.{List, [], _∷_, _++_, map, append-nil, append-assoc, map-append}
 use Prim.Native.Nat.{ℕ}
 use lib.ListN.{length}
-use lib.Dec.{eqb, ltb}
+use lib.Dec.{eqb}
 use borrow.Author.Tests.{not-false}
 use Rattle.laws.specs.Lists.{keep, anyOf, Each, isEmpty, toList}
 use Rattle.laws.specs.Ascending.{insertBy}
@@ -14,16 +14,16 @@ use Rattle.laws.proofs.Tests.{never}
 use Rattle.laws.proofs.Lists.{cond-elim, eqb-same, eqb-sym, keep-ascending, keep-const, none-is, any-append, empty-is, each-map}
 use Rattle.laws.proofs.InOrder.{tests-cases, tests-all}
 use Rattle.field.specs.Field.{field}
-use Rattle.model.specs.Device.{QueueType, input, output, queued, dequeued, Queue, Stream, newStream, queueOf, withQueue, drainTicket, withDrain, withSlots, Buffer, queuedIn, byResource, buffers, bufferOf, present, addResource, setState, freeAll}
+use Rattle.model.specs.Device.{QueueType, input, output, queued, dequeued, Queue, Stream, newStream, queueOf, withQueue, drainTicket, withDrain, withEos, withSlots, Buffer, queuedIn, byResource, buffers, bufferOf, present, addResource, setState, freeAll}
 use Rattle.model.specs.Frames.{QueueCommand, createResource, queueResource, destroyAll, clear, getParameters, setParameters, LiveCommand, destroy, drain, control, toQueue, create, live, CommandRule, commands, ruleOf, wrongLength, queueNumber, queueNamed, codedFormat, resourceId, timestampSent}
 use Rattle.model.specs.Answers.{ErrorCode, invalidOperation, invalidStream, invalidParameter, unsupportedControl, Response, success, bufferDone, drainDone, parameters, failure, Answer}
 use Rattle.model.specs.Replies.{Reply, refuse, reply, Request, own, fail}
 use Rattle.model.specs.Commands.{Surroundings, onCreate, stoppedAnswers, drainAnswers, onDestroy, onDrain, onCreateResource, onQueue, onDestroyAll, drainEnded, withoutEnded, cleared, onClear, onGet, onSet, onQueueOf, onLive, onStream, onRule, onCommand}
-use Rattle.model.specs.Reports.{timestampOf, badEos, finishBuffer, finishQueue, finishStream, onFinish, endDrain, onDrained}
+use Rattle.model.specs.Reports.{timestampOf, hasEos, noteEos, finishLeaves, onFinish, onDrained}
 use Rattle.model.specs.Steps.{Act, command, finish, drained, serve}
 use Rattle.model.specs.Ledger.{Awaited, toBuffer, toDrain, awaitedBy, isBufferOf, isDrain, resourceIn, completes, stepTicket, ownTickets}
 use Rattle.model.proofs.Slots.{byRes, Distinct, queued-stop, queued-free, queued-add, queued-finish, queued-only, queued-more, isRes}
-use Rattle.model.proofs.Origins.{named-cases}
+use Rattle.model.proofs.Origins.{eos-ticket, named-cases, finish-cases, drained-cases}
 use Rattle.model.proofs.Rules.{by-type, named-number}
 use Rattle.model.proofs.Seen.{NotAgain}
 use Rattle.model.proofs.LedgerView.{View, pick, bufferTickets, ticketsOf, viewAfter, ticketsCompleted}
@@ -244,6 +244,15 @@ destroy-fits c b =
       rejected = λ z. never z;
     }
 
+-- EOS given for a drain changes nothing of what is pending
+noted-holds : (flags : ℕ) (b : Stream) → holding (some (noteEos flags b)) ≡ holding (some b)
+unfolding holding
+noted-holds flags b = cond-elim (λ (x : Stream). holding (some x) ≡ holding (some b)) (hasEos flags) (λ _ i. record { queued = λ q. same-buffers q i; drains = toList (eos-ticket b i) }) (λ _. refl)
+  where
+    same-buffers : (q : QueueType) → buffers q (withEos b) ≡ buffers q b
+    same-buffers input = refl
+    same-buffers output = refl
+
 -- an accepted finish report
 abbrev finishes : ℕ → ℕ → Awaited → Bool
 finishes qt r x = isBufferOf qt x && eqb (resourceIn x) r
@@ -264,16 +273,17 @@ finish-told q r i b s f = go q refl
     go input e = simp (e, subst (λ (x : QueueType). keep (isRes r) (buffers x b) ≡ i ∷ []) e out, keep-const false (buffers output b))
     go output e = simp (e, subst (λ (x : QueueType). keep (isRes r) (buffers x b) ≡ i ∷ []) e out, keep-const false (buffers input b))
 
-finish-fits : (q : QueueType) (n r : ℕ) (a : Answer) (i : Buffer) (b : Stream) → Sane (some b) → bufferOf r (queuedIn (queueOf q b .slots)) ≡ some i
+finish-fits : (q : QueueType) (n r flags : ℕ) (a : Answer) (i : Buffer) (b : Stream) → Sane (some b) → bufferOf r (queuedIn (queueOf q b .slots)) ≡ some i
     → a .ticket ≡ i .ticket → fails a ≡ false
-    → Fits (finishes (queueNumber q) r) none n 0 nobody (some b) (reply (a ∷ []) (some (withQueue q (withSlots (setState r dequeued (queueOf q b .slots)) (queueOf q b)) b)))
+    → Fits (finishes (queueNumber q) r) none n 0 nobody (some b) (reply (a ∷ []) (some (finishLeaves r flags b q)))
 unfolding holding
-finish-fits q n r a i b s f k e =
+finish-fits q n r flags a i b s f k e =
     let x = queueOf q b .slots in
     record {
       acc = true;
       is = simp e;
-      held = view-with q (withSlots (setState r dequeued x) (queueOf q b)) b _ _
+      held = noted-holds flags (withQueue q (withSlots (setState r dequeued x) (queueOf q b)) b)
+          ∙ view-with q (withSlots (setState r dequeued x) (queueOf q b)) b _ _
           (simp (eqb-same (queueNumber q)) (ap byResource (queued-finish r x) ∙ sym (keep-ascending byRes (λ y. not (isRes r y)) (queuedIn x))))
           (λ o h. simp (eqb-sym (queueNumber q) (queueNumber o) h) (sym (keep-const true (buffers o b)))) refl;
       told = ap (λ (y : ℕ). y ∷ []) k ∙ finish-told q r i b s f ∙ sym (append-nil (ticketsOf (pick (finishes (queueNumber q) r) (holding (some b)))));
@@ -470,38 +480,20 @@ module _ (n qt r flags ts : ℕ) where
   not-finished : (self : Option Stream) (k : ℕ) → eqb k 0 ≡ false → FinishFits self (refuse k self)
   not-finished self k z = refuse-fits (finishes qt r) none n 0 k self z
 
-  finish-queue : (b : Stream) → Sane (some b) → (o : Option QueueType) → queueNamed qt ≡ o → FinishFits (some b) (finishQueue n r flags ts b o)
-  finish-queue b s none e = not-finished (some b) 5 refl
-  finish-queue b s (some q) e = found (bufferOf r (queuedIn (queueOf q b .slots))) refl
-    where
-      found : (x : Option Buffer) → bufferOf r (queuedIn (queueOf q b .slots)) ≡ x → FinishFits (some b) (finishBuffer n r flags ts b q x)
-      found none h = not-finished (some b) 5 refl
-      found (some i) h =
-          cond-elim (FinishFits (some b)) (badEos flags q b) (λ _. not-finished (some b) 6 refl)
-          (λ _. subst (λ (x : ℕ). Fits (finishes x r) none n 0 nobody (some b)
-          (reply (record { ticket = i .ticket; stream = n; response = bufferDone q (timestampOf q i ts) flags } ∷ [])
-          (some (withQueue q (withSlots (setState r dequeued (queueOf q b .slots)) (queueOf q b)) b))))
-          (sym (named-number qt q e))
-          (finish-fits q n r (record { ticket = i .ticket; stream = n; response = bufferDone q (timestampOf q i ts) flags }) i b s h refl refl))
-
-  finish-stream : (self : Option Stream) → Sane self → FinishFits self (finishStream n qt r flags ts self)
-  finish-stream none s = not-finished none 5 refl
-  finish-stream (some b) s = finish-queue b s (queueNamed qt) refl
-
   finished : (self : Option Stream) → Sane self → FinishFits self (onFinish n qt r flags ts self)
-  unfolding onFinish
-  finished self s = cond-elim (FinishFits self) (ltb 3 flags) (λ _. not-finished self 6 refl) (λ _. finish-stream self s)
+  finished self s =
+      finish-cases (FinishFits self) n qt r flags ts self (not-finished self 5 refl) (not-finished self 6 refl)
+      (λ b q i h. let a : Answer = record { ticket = i .ticket; stream = n; response = bufferDone q (timestampOf q i ts) flags } in
+      subst (λ (x : Option Stream). FinishFits x (reply (a ∷ []) (some (finishLeaves r flags b q)))) (sym (h .self-is))
+      (subst (λ (x : ℕ). Fits (finishes x r) none n 0 nobody (some b) (reply (a ∷ []) (some (finishLeaves r flags b q)))) (sym (named-number qt q (h .named-is)))
+      (finish-fits q n r flags a i b (subst Sane (h .self-is) s) (h .waits-is) refl refl)))
 
 drained-in : (n : ℕ) (self : Option Stream) → Fits isDrain none n 0 nobody self (onDrained n self)
-unfolding onDrained
-drained-in n none = refuse-fits isDrain none n 0 5 none refl
-drained-in n (some b) = owing (drainTicket b) refl
-  where
-    owing : (d : Option ℕ) → drainTicket b ≡ d → Fits isDrain none n 0 nobody (some b) (endDrain n b d)
-    owing none e = refuse-fits isDrain none n 0 5 (some b) refl
-    owing (some t) e =
-        cond-elim (Fits isDrain none n 0 nobody (some b)) (isEmpty (queuedIn (b .inputs .slots)))
-        (λ _. drained-fits n t b e) (λ _. refuse-fits isDrain none n 0 5 (some b) refl)
+drained-in n self =
+    drained-cases (Fits isDrain none n 0 nobody self) n self (refuse-fits isDrain none n 0 5 self refl)
+    (λ b t h.
+    subst (λ (x : Option Stream). Fits isDrain none n 0 nobody x (reply (record { ticket = t; stream = n; response = drainDone } ∷ []) (some (withDrain none b)))) (sym (h .self-is))
+    (drained-fits n t b (h .drain-is)))
 
 -- Every step
 

@@ -2,27 +2,53 @@
 use Prim.Native.Nat.{ℕ, _+_}
 use mathlib.Core.Path.{_≡_, refl, sym, subst}
 use mathlib.Core.Bool.{true, false, cond, not}
-use mathlib.Core.Option.{Option, none, some}
+use mathlib.Core.Option.{Option, none, some, Option·map}
 use mathlib.Core.List.{[], _∷_}
 use lib.ListN.{length}
 use lib.Dec.{eqb, ltb}
 use Rattle.laws.specs.Tests.{within}
-use Rattle.laws.specs.Lists.{isEmpty}
+use Rattle.laws.specs.Lists.{}
 use Rattle.laws.specs.InOrder.{byTests}
 use Rattle.laws.proofs.Lists.{cond-elim}
 use Rattle.tag.specs.Tag.{goodTag, tagIn}
 use Rattle.model.specs.Numbers.{tableWords, firstCoded, lastCoded, err, eos}
-use Rattle.model.specs.Device.{QueueType, dequeued, Stream, Device, newStream, queueOf, withQueue, drainTicket, withDrain, withSlots, Buffer, queuedIn, bufferOf, setState}
+use Rattle.model.specs.Device.{QueueType, PendingDrain, giveEos, ticketOf, Stream, Device, newStream, queueOf, drainTicket, withDrain, withEos, Buffer, queuedIn, bufferOf}
 use Rattle.model.specs.Frames.{QueueCommand, LiveCommand, destroy, drain, control, toQueue, Command, create, live, CommandRule, ruleOf, wrongLength, queueNamed, commandType, inMemType, outMemType, codedFormat, queueType}
 use Rattle.model.specs.Answers.{ErrorCode, invalidOperation, outOfMemory, invalidStream, invalidParameter, unsupportedControl, success, bufferDone, drainDone}
 use Rattle.model.specs.Replies.{Reply, refuse, reply, Request, own, fail}
 use Rattle.model.specs.Commands.{Surroundings, onCreate, onDestroy, onDrain, onQueueOf, onNamed, onLive, onStream, onRule, onCommand}
-use Rattle.model.specs.Reports.{timestampOf, badEos, finishBuffer, finishQueue, finishStream, onFinish, endDrain, onDrained}
+use Rattle.model.specs.Reports.{timestampOf, badEos, finishLeaves, finishBuffer, finishQueue, finishStream, onFinish, drainOver, endDrain, onDrained}
 use Rattle.model.specs.Steps.{Step, streamOf, DeviceReply, refused, performOf, hostRefusal, stepOn}
 
 -- the queue that a command names
 abbrev pub named : Request → Option QueueType
 named c = queueNamed (queueType (c .frame))
+
+-- a drain is pending under the ticket that it was given
+pub new-ticket : (t : Option ℕ) (b : Stream) → drainTicket (withDrain t b) ≡ t
+new-ticket none b = refl
+new-ticket (some t) b = refl
+
+-- a drain keeps its ticket where EOS is given for it
+pub eos-ticket : (b : Stream) → drainTicket (withEos b) ≡ drainTicket b
+eos-ticket b = of (b .draining)
+  where
+    of : (d : Option PendingDrain) → ticketOf (Option·map giveEos d) ≡ ticketOf d
+    of none = refl
+    of (some d) = refl
+
+-- a finish report that is taken: its stream, its queue and its Queued buffer
+pub record Taken (self : Option Stream) (qt r flags : ℕ) (b : Stream) (q : QueueType) (i : Buffer) : Type 0 where
+  pub self-is : self ≡ some b
+  pub named-is : queueNamed qt ≡ some q
+  pub waits-is : bufferOf r (queuedIn (queueOf q b .slots)) ≡ some i
+  pub eos-fits : badEos flags q b ≡ false
+
+-- a drained report that is taken
+pub record Over (self : Option Stream) (b : Stream) (t : ℕ) : Type 0 where
+  pub self-is : self ≡ some b
+  pub drain-is : drainTicket b ≡ some t
+  pub over-is : drainOver b ≡ true
 
 module _ (P : Reply → Type 0) where
   -- an error, a creation, or a command to a live stream
@@ -73,28 +99,29 @@ module _ (P : Reply → Type 0) where
 
   -- refusal 5 or 6, or the answer to a Queued buffer
   pub finish-cases : (n qt r flags ts : ℕ) (self : Option Stream) → P (refuse 5 self) → P (refuse 6 self)
-      → ((q : QueueType) (b : Stream) (i : Buffer) → self ≡ some b → bufferOf r (queuedIn (queueOf q b .slots)) ≡ some i
-      → P (reply (record { ticket = i .ticket; stream = n; response = bufferDone q (timestampOf q i ts) flags } ∷ [])
-      (some (withQueue q (withSlots (setState r dequeued (queueOf q b .slots)) (queueOf q b)) b))))
+      → ((b : Stream) (q : QueueType) (i : Buffer) → Taken self qt r flags b q i
+      → P (reply (record { ticket = i .ticket; stream = n; response = bufferDone q (timestampOf q i ts) flags } ∷ []) (some (finishLeaves r flags b q))))
       → P (onFinish n qt r flags ts self)
   unfolding onFinish
   finish-cases n qt r flags ts self five six h = cond-elim P (ltb (err + eos) flags) (λ _. six) (λ _. of-stream self refl)
     where
-      of-buffer : (b : Stream) (q : QueueType) (i : Option Buffer) → self ≡ some b → bufferOf r (queuedIn (queueOf q b .slots)) ≡ i → P (finishBuffer n r flags ts b q i)
-      of-buffer b q none e f = rw e at five
-      of-buffer b q (some i) e f = cond-elim P (badEos flags q b) (λ _. rw e at six) (λ _. h q b i e f)
+      of-buffer : (b : Stream) (q : QueueType) (i : Option Buffer) → self ≡ some b → queueNamed qt ≡ some q → bufferOf r (queuedIn (queueOf q b .slots)) ≡ i
+          → P (finishBuffer n r flags ts b q i)
+      of-buffer b q none e o f = rw e at five
+      of-buffer b q (some i) e o f =
+          cond-elim P (badEos flags q b) (λ _. rw e at six) (λ z. h b q i (record { self-is = e; named-is = o; waits-is = f; eos-fits = z }))
 
-      of-queue : (b : Stream) (q : Option QueueType) → self ≡ some b → P (finishQueue n r flags ts b q)
-      of-queue b none e = rw e at five
-      of-queue b (some q) e = of-buffer b q (bufferOf r (queuedIn (queueOf q b .slots))) e refl
+      of-queue : (b : Stream) (q : Option QueueType) → self ≡ some b → queueNamed qt ≡ q → P (finishQueue n r flags ts b q)
+      of-queue b none e o = rw e at five
+      of-queue b (some q) e o = of-buffer b q (bufferOf r (queuedIn (queueOf q b .slots))) e o refl
 
       of-stream : (s : Option Stream) → self ≡ s → P (finishStream n qt r flags ts s)
       of-stream none e = rw e at five
-      of-stream (some b) e = of-queue b (queueNamed qt) e
+      of-stream (some b) e = of-queue b (queueNamed qt) e refl
 
   -- refusal 5, or the answer to a pending drain
   pub drained-cases : (n : ℕ) (self : Option Stream) → P (refuse 5 self)
-      → ((b : Stream) (t : ℕ) → self ≡ some b → drainTicket b ≡ some t → P (reply (record { ticket = t; stream = n; response = drainDone } ∷ []) (some (withDrain none b))))
+      → ((b : Stream) (t : ℕ) → Over self b t → P (reply (record { ticket = t; stream = n; response = drainDone } ∷ []) (some (withDrain none b))))
       → P (onDrained n self)
   unfolding onDrained
   drained-cases n none five h = five
@@ -104,8 +131,8 @@ module _ (P : Reply → Type 0) where
       of-drain none e = five
       of-drain (some t) e =
           let done : Reply = reply (record { ticket = t; stream = n; response = drainDone } ∷ []) (some (withDrain none b)) in
-          let is : endDrain n b (some t) ≡ cond (isEmpty (queuedIn (b .inputs .slots))) done (refuse 5 (some b)) = refl in
-          subst P (sym is) (cond-elim P (isEmpty (queuedIn (b .inputs .slots))) (λ _. h b t refl e) (λ _. five))
+          let is : endDrain n b (some t) ≡ cond (drainOver b) done (refuse 5 (some b)) = refl in
+          subst P (sym is) (cond-elim P (drainOver b) (λ z. h b t (record { self-is = refl; drain-is = e; over-is = z })) (λ _. five))
 
 -- a refusal by a number, or what the stream that the step names gives
 pub step-cases : (P : DeviceReply → Type 0) (d : Device) (s : Step) → ((k : ℕ) → eqb k 0 ≡ false → P (refused k d))

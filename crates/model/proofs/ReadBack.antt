@@ -213,11 +213,11 @@ unfolding serve u32
 serve-answers around n self (command t f) g m = command-readable (record { stream = n; ticket = t; frame = f; self = self }) (and-left (u32 t) _ m) around g
 serve-answers around n self (finish k qt r flags ts) g m =
     finish-cases GoodAnswers n qt r flags ts self refl refl
-    (λ q b i e f. both (answer-good (i .ticket) n _ (found-good r i (queuedIn (queueOf q b .slots)) (queue-small q b (subst GoodSelf e g)) f) refl) refl)
+    (λ b q i h. both (answer-good (i .ticket) n _ (found-good r i (queuedIn (queueOf q b .slots)) (queue-small q b (subst GoodSelf (h .self-is) g)) (h .waits-is)) refl) refl)
 serve-answers around n self (drained k) g m =
     drained-cases GoodAnswers n self refl
-    (λ b t e f. let s : GoodStream b = subst GoodSelf e g in
-    both (answer-good t n drainDone (subst (λ d. goodDrain d ≡ true) f (s .draining)) refl) refl)
+    (λ b t h. let s : GoodStream b = subst GoodSelf (h .self-is) g in
+    both (answer-good t n drainDone (subst (λ d. goodDrain d ≡ true) (h .drain-is) (s .draining)) refl) refl)
 
 pub step-answers : (d : Device) (s : Step) → wellFormed d ≡ true → goodAct (s .act) ≡ true → allOf goodAnswer (stepOn d s .answers) ≡ true
 step-answers d s h m =

@@ -54,8 +54,8 @@ module _ (Q : Act → ℕ → Type 0) (zero : (a : Act) → Q a 0) (four : (t : 
       (λ _. subst (Q (command t f)) (sym (command-answers (around d (streamId f)) (record { stream = streamId f; ticket = t; frame = f; self = recordOf (streamId f) (d .places) }))) (zero (command t f)))
   own-refusals d (finish n qt r flags ts) =
       finish-cases (λ (v : Reply). Q (finish n qt r flags ts) (v .refusal)) n qt r flags ts (recordOf n (d .places))
-      (five n qt r flags ts) (six n qt r flags ts) (λ q b i e h. zero (finish n qt r flags ts))
-  own-refusals d (drained n) = drained-cases (λ (v : Reply). Q (drained n) (v .refusal)) n (recordOf n (d .places)) (late n) (λ b t e h. zero (drained n))
+      (five n qt r flags ts) (six n qt r flags ts) (λ b q i h. zero (finish n qt r flags ts))
+  own-refusals d (drained n) = drained-cases (λ (v : Reply). Q (drained n) (v .refusal)) n (recordOf n (d .places)) (late n) (λ b t h. zero (drained n))
 
 abbrev Listed : Act → ℕ → Type 0
 Listed a k = listed a k ≡ true

@@ -117,8 +117,8 @@ serve-small : (around : Surroundings) (n : ℕ) (self : Option Stream) (a : Act)
 unfolding serve
 serve-small around n self (command t f) g = command-small around (record { stream = n; ticket = t; frame = f; self = self }) g
 serve-small around n self (finish k qt r flags ts) g =
-    finish-cases InRoom n qt r flags ts self (omega arith) (omega arith) (λ q b i e f. omega (arith, size-cons (i .ticket) n (bufferDone q (timestampOf q i ts) flags) []))
-serve-small around n self (drained k) g = drained-cases InRoom n self (omega arith) (λ b t e f. omega (arith, size-cons t n drainDone []))
+    finish-cases InRoom n qt r flags ts self (omega arith) (omega arith) (λ b q i h. omega (arith, size-cons (i .ticket) n (bufferDone q (timestampOf q i ts) flags) []))
+serve-small around n self (drained k) g = drained-cases InRoom n self (omega arith) (λ b t h. omega (arith, size-cons t n drainDone []))
 
 pub fits-room : FitsRoom
 fits-room d s h =

@@ -61,8 +61,8 @@ module _ (around : Surroundings) (n : ℕ) where
       (λ l. cond-elim (NewExactly (creates (l .command)) self) (wrongLength (l .lengthRule) (length f)) (λ _. fail-new (creates (l .command)) c invalidParameter) (λ _. stream-new t f (l .command) self u))
       (λ creation. fail-new creation c invalidOperation) (commandType f)
   serve-new self (finish m qt r flags ts) u =
-      finish-cases (NewExactly false self) n qt r flags ts self (not-new self) (not-new self) (λ q b i e y. ap (λ (x : Option Stream). isNew x (some b)) e)
-  serve-new self (drained m) u = drained-cases (NewExactly false self) n self (not-new self) (λ b t e y. ap (λ (x : Option Stream). isNew x (some b)) e)
+      finish-cases (NewExactly false self) n qt r flags ts self (not-new self) (not-new self) (λ b q i h. ap (λ (x : Option Stream). isNew x (some b)) (h .self-is))
+  serve-new self (drained m) u = drained-cases (NewExactly false self) n self (not-new self) (λ b t h. ap (λ (x : Option Stream). isNew x (some b)) (h .self-is))
 
 -- So a number may not be taken any more exactly where the event is an accepted creation of it
 

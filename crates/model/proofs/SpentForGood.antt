@@ -94,8 +94,8 @@ module _ (around : Surroundings) (u : around .unusable ≡ true) (n : ℕ) where
   unfolding serve
   gone-rejects (command t f) =
       command-cases NotTaken around (requestOf n t none f) (λ e. refl) (λ y. never (sym u ∙ y)) (λ k b e. cc)
-  gone-rejects (finish m qt r flags ts) = finish-cases NotTaken n qt r flags ts none refl refl (λ q b i e y. cc)
-  gone-rejects (drained m) = drained-cases NotTaken n none refl (λ b t e y. cc)
+  gone-rejects (finish m qt r flags ts) = finish-cases NotTaken n qt r flags ts none refl refl (λ b q i h. let e = h .self-is in cc)
+  gone-rejects (drained m) = drained-cases NotTaken n none refl (λ b t h. let e = h .self-is in cc)
 
   gone-reaches : (a : Act) (s : Step) (d : Device) → streamOf a ≡ some n
       → ReachesNobody a (eventOf s (record { refusal = serve around n none a .refusal; answers = serve around n none a .answers; device = d }))

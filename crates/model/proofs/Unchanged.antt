@@ -86,9 +86,9 @@ module _ (d : Device) (h : wellFormed d ≡ true) (n : ℕ) where
       of (command t f) s acc r = asked t f (serve (around d n) n self (command t f)) (step-stream-is (command t f) n s) r
       of (finish m qt x flags ts) s acc r =
           numbered-report (finish m qt x flags ts) (serve (around d n) n self (finish m qt x flags ts)) r
-          (finish-cases Numbered n qt x flags ts self (λ _. refl) (λ _. refl) (λ q b i e f z. never z)) acc
+          (finish-cases Numbered n qt x flags ts self (λ _. refl) (λ _. refl) (λ b q i h z. never z)) acc
       of (drained m) s acc r =
-          numbered-report (drained m) (serve (around d n) n self (drained m)) r (drained-cases Numbered n self (λ _. refl) (λ b t e f z. never z)) acc
+          numbered-report (drained m) (serve (around d n) n self (drained m)) r (drained-cases Numbered n self (λ _. refl) (λ b t h z. never z)) acc
 
 not-accepted : (d : Device) (a : Act) → wellFormed d ≡ true → acceptedDeviceReply (perform d a) ≡ false → NotAccepted d a (perform d a)
 not-accepted d a h = of (streamOf a) refl

@@ -19,12 +19,13 @@ use Rattle.model.specs.Device.{QueueType, input, output, State, created,
 use Rattle.model.specs.Frames.{QueueCommand, createResource, queueResource, destroyAll, clear, getParameters, setParameters, LiveCommand, word, streamId, codedFormat, resourceId, timestampSent}
 use Rattle.model.specs.Replies.{Reply, Request, fail}
 use Rattle.model.specs.Commands.{Surroundings, onCreate, onDestroy, onDrain, onCreateResource, onQueue, onDestroyAll, withoutEnded, cleared, onClear, onGet, goodExtent, badExtent, onSet, onQueueOf, onLive, onCommand}
+use Rattle.model.specs.Reports.{hasEos, noteEos}
 use Rattle.model.specs.Steps.{Act, command, finish, drained, streamOf, serve, DeviceReply, around}
 use Rattle.model.specs.WellFormed.{u8, u32, u64, goodState, goodSlot, distinctSlots, goodSlots, goodQueue, goodDrain, goodStream, goodPlace, distinctPlaces, goodPlaces, spentIn, goodSpent, wellFormed, goodAct}
 use Rattle.model.specs.Promises.{StaysWellFormed}
 use Rattle.field.proofs.Laws.{field-below}
 use Rattle.model.proofs.Slots.{Distinct, distinct-set, distinct-stop, distinct-free, distinct-add}
-use Rattle.model.proofs.Origins.{live-cases, command-cases, finish-cases, drained-cases, step-cases}
+use Rattle.model.proofs.Origins.{new-ticket, eos-ticket, live-cases, command-cases, finish-cases, drained-cases, step-cases}
 use Rattle.model.proofs.Places.{alone, alone-head, alone-tail, replace-other, replace-absent, install-other, all-record, all-put}
 use Rattle.model.proofs.Spent.{spend-same, spend-keeps}
 use Rattle.model.proofs.Seen.{NotAgain, serve-next, nextOf, after-length}
@@ -189,7 +190,11 @@ good-slots t s b g h =
     good-with t _ b g (record { slots = h; width = o .width; height = o .height; rate = o .rate })
 
 good-drain : (d : Option ℕ) (b : Stream) → GoodStream b → goodDrain d ≡ true → GoodStream (withDrain d b)
-good-drain d b g h = record { format = g .format; draining = h; inputs = g .inputs; outputs = g .outputs }
+good-drain d b g h = record { format = g .format; draining = subst (λ (t : Option ℕ). goodDrain t ≡ true) (sym (new-ticket d b)) h; inputs = g .inputs; outputs = g .outputs }
+
+good-noted : (flags : ℕ) (b : Stream) → GoodStream b → GoodStream (noteEos flags b)
+good-noted flags b g =
+    cond-elim GoodStream (hasEos flags) (λ _. record { format = g .format; draining = subst (λ (t : Option ℕ). goodDrain t ≡ true) (sym (eos-ticket b)) (g .draining); inputs = g .inputs; outputs = g .outputs }) (λ _. g)
 
 good-clear : (t : QueueType) (b : Stream) → GoodStream b → GoodStream (withQueue t (cleared (queueOf t b)) (withoutEnded t b))
 good-clear t b g =
@@ -249,10 +254,10 @@ serve-good around n self (command t f) g m =
     command-good around (record { stream = n; ticket = t; frame = f; self = self }) g (and-left (u32 t) _ m) (and-right (u32 t) _ m)
 serve-good around n self (finish k qt r flags ts) g m =
     finish-cases GoodNext n qt r flags ts self g g
-    (λ q b i e f. let h : GoodStream b = subst GoodSelf e g in
-    good-slots q _ b h (slots-set r dequeued (queueOf q b .slots) refl ((good-queue-of q b h) .slots)))
+    (λ b q i h. let s : GoodStream b = subst GoodSelf (h .self-is) g in
+    good-noted flags _ (good-slots q _ b s (slots-set r dequeued (queueOf q b .slots) refl ((good-queue-of q b s) .slots))))
 serve-good around n self (drained k) g m =
-    drained-cases GoodNext n self g (λ b t e f. good-drain none b (subst GoodSelf e g) refl)
+    drained-cases GoodNext n self g (λ b t h. good-drain none b (subst GoodSelf (h .self-is) g) refl)
 
 -- Places
 

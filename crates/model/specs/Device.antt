@@ -3,11 +3,11 @@
 -- A place is document 01's own word; it calls a slot a place too, and a pending drain an owed one.
 use Prim.Native.Nat.{ℕ}
 use mathlib.Core.Bool.{Bool, true, false, cond, not, _&&_}
-use mathlib.Core.Option.{Option, none, some}
+use mathlib.Core.Option.{Option, none, some, Option·map}
 use mathlib.Core.List.{List, [], _∷_}
 use lib.ListN.{replicate, getD, set}
 use lib.Dec.{eqb}
-use Rattle.laws.specs.Lists.{isNone, numbersIn, standsIn}
+use Rattle.laws.specs.Lists.{isEmpty, isNone, numbersIn, standsIn}
 use Rattle.laws.specs.Ascending.{ascending}
 use Rattle.model.specs.Numbers.{streamPlaces, queueSlots, streamNumbers}
 
@@ -33,10 +33,32 @@ pub record Queue : Type 0 where
   pub rate : ℕ
   pub slots : List Slot
 
--- the record of a live stream: coded format, the ticket of a pending drain, the two queues. Its number stands in its place.
+-- a pending drain: its ticket, and whether EOS was given since it was accepted
+pub record PendingDrain : Type 0 where
+  pub ticket : ℕ
+  pub eosGiven : Bool
+
+-- a drain that is accepted starts without it
+abbrev pub newDrain : ℕ → PendingDrain
+newDrain t = record { ticket = t; eosGiven = false }
+
+-- the drain with EOS given
+abbrev pub giveEos : PendingDrain → PendingDrain
+giveEos d = record { ticket = d .ticket; eosGiven = true }
+
+-- the ticket of a pending drain
+abbrev pub ticketOf : Option PendingDrain → Option ℕ
+ticketOf d = Option·map (λ (x : PendingDrain). x .ticket) d
+
+-- whether EOS was given for it; not so where none is pending
+abbrev pub givenFor : Option PendingDrain → Bool
+givenFor none = false
+givenFor (some d) = d .eosGiven
+
+-- the record of a live stream: coded format, a pending drain, the two queues. Its number stands in its place.
 pub record Stream : Type 0 where
   pub format : ℕ
-  pub draining : Option ℕ
+  pub draining : Option PendingDrain
   pub inputs : Queue
   pub outputs : Queue
 
@@ -76,11 +98,19 @@ withQueue output q b = record { format = b .format; draining = b .draining; inpu
 
 -- the ticket of its pending drain, or none
 abbrev pub drainTicket : Stream → Option ℕ
-drainTicket b = b .draining
+drainTicket b = ticketOf (b .draining)
 
--- the record with a drain pending under that ticket, or with none
+-- the record with a drain newly pending under that ticket, or with none
 abbrev pub withDrain : Option ℕ → Stream → Stream
-withDrain t b = record { format = b .format; draining = t; inputs = b .inputs; outputs = b .outputs }
+withDrain t b = record { format = b .format; draining = Option·map newDrain t; inputs = b .inputs; outputs = b .outputs }
+
+-- whether EOS was given for its pending drain
+abbrev pub lastGiven : Stream → Bool
+lastGiven b = givenFor (b .draining)
+
+-- the record with EOS given for its pending drain
+abbrev pub withEos : Stream → Stream
+withEos b = record { format = b .format; draining = Option·map giveEos (b .draining); inputs = b .inputs; outputs = b .outputs }
 
 -- the queue with other slots
 abbrev pub withSlots : List Slot → Queue → Queue
@@ -129,6 +159,10 @@ slotNumber (resource r p) = some r
 -- some slot holds the resource number
 abbrev pub present : ℕ → List Slot → Bool
 present r s = standsIn r (numbersIn slotNumber s)
+
+-- no slot holds a resource, in whatever state
+abbrev pub noResource : List Slot → Bool
+noResource s = isEmpty (numbersIn slotNumber s)
 
 -- every slot holds something
 abbrev pub noSlot : List Slot → Bool

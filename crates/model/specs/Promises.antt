@@ -3,18 +3,21 @@
 use Prim.Native.Nat.{ℕ, _≤_, _<_}
 use mathlib.Core.Path.{_≡_}
 use mathlib.Core.Bool.{Bool, true, false, cond, not, _&&_, _||_}
+use mathlib.Core.Option.{Option, none, some}
 use mathlib.Core.List.{List, [], _∷_, _++_, map}
 use lib.ListN.{length, take, drop}
 use lib.Dec.{eqb, ltb, leb}
 use Rattle.laws.specs.Lists.{anyOf, allOf, Each, howMany}
 use Rattle.field.specs.Field.{field}
 use Rattle.model.specs.Numbers.{tableWords, answerRoom}
-use Rattle.model.specs.Device.{Place, vacant, occupied, Device, fresh}
+use Rattle.model.specs.Device.{Stream, Place, vacant, occupied, Device, fresh, noResource}
 use Rattle.model.specs.Frames.{word, streamId}
 use Rattle.model.specs.Answers.{ErrorCode, code, Answer, responseOf, wordBytes, bytesOf, Written, answersIn}
 use Rattle.model.specs.Steps.{Act, command, finish, drained, Step, stepOn, Event, eventOf, answersOf, accepted, belongs, isCreation, outOfMemoryAt}
+use Rattle.model.specs.Ledger.{toDrain, stepStream, awaitedBy, adds, completed, notedOf, ledgerOf}
 use Rattle.model.specs.WellFormed.{wellFormed, goodAct, goodSteps}
 use Rattle.model.specs.Tables.{Layout, Effect, untouched, valid, effect, freshen, tableEvent, tableEvents}
+use Rattle.model.specs.Condition3.{stepsOf, onTable}
 
 -- Over devices
 
@@ -119,8 +122,8 @@ NoTableRefusal L = (t : List ℕ) (ss : List Step) → tableWords ≤ length t �
 abbrev pub WritesAtMost : Layout → Type 0
 WritesAtMost L = (t : List ℕ) (a : Act) (room : List ℕ) → effect L t a room .written ≤ 1056
 
--- A stream number is spent for good, so that what comes late for a destroyed stream reaches nobody. The numbers below are 01's, written out, so that a
--- mistake in the device's definitions shows; only the words of the table and the bytes of room go by their name.
+-- A stream number is spent for good, so that what comes late for a destroyed stream reaches nobody. The numbers below are those of 01 and 02, written
+-- out, so that a mistake in the device's definitions shows; only the words of the table and the bytes of room go by their name.
 
 -- what a step of a destroyed stream's number is answered, where the room is enough: a creation of 88 bytes 0x0302, a report refusal 5, or 6 for flags above 3
 abbrev pub ReachesNobody : Act → Event → Type 0
@@ -153,3 +156,42 @@ SpentExactly L =
     (t : List ℕ) (ss : List Step) (before later : List Event) (e : Event) (ticket : ℕ) (f : List ℕ) → tableWords ≤ length t → goodSteps ss ≡ true
     → tableEvents L (freshen L t .table) ss ≡ before ++ e ∷ later → e .step .act ≡ command ticket f → field 4 f 0 ≡ 0x0101 → length f ≡ 88
     → answerRoom ≤ length (e .step .room) → saysInvalidStream e ≡ (ltb 1023 (field 4 f 4) || anyOf (createdAt (field 4 f 4)) before)
+
+-- No drain is said to be done without its last picture. The numbers are written out here too.
+
+-- a finish of an output of the stream n with EOS
+abbrev pub isEosFinish : ℕ → Act → Bool
+isEosFinish n (command t f) = false
+isEosFinish n (finish m qt r flags ts) = eqb m n && (eqb qt 0x101 && leb 2 flags)
+isEosFinish n (drained m) = false
+
+-- an accepted one
+abbrev pub givesEos : ℕ → Event → Bool
+givesEos n e = isEosFinish n (e .step .act) && accepted e
+
+-- the stream is live and has an output resource, in whatever state
+abbrev pub hasOutputs : Option Stream → Bool
+hasOutputs none = false
+hasOutputs (some b) = not (noResource (b .outputs .slots))
+
+-- the event e, after the events `before`, answers a drain of the stream n: the event that accepted it, those earlier and those since, of which
+-- one, and only one, gives EOS where the stream now has outputs
+pub record LastPicture (n : ℕ) (before : List Event) (e : Event) (self : Option Stream) : Type 0 where
+  pub earlier : List Event
+  pub acceptance : Event
+  pub since : List Event
+  pub beforeIs : before ≡ earlier ++ acceptance ∷ since
+  pub isAccepted : accepted acceptance ≡ true
+  pub ofDrain : awaitedBy (acceptance .step .act) ≡ some toDrain
+  pub ofStream : stepStream (acceptance .step .act) ≡ n
+  -- what e completes is what the acceptance added
+  pub answers : completed (notedOf (length before) e) (ledgerOf before) ≡ adds (length earlier) (acceptance .step .act)
+  pub oneEos : hasOutputs self ≡ true → howMany (givesEos n) since ≡ 1
+  pub atMostOne : howMany (givesEos n) since ≤ 1
+
+-- from a fresh table: every accepted drained report answers such a drain
+abbrev pub NoDrainWithoutLast : Layout → Type 0
+NoDrainWithoutLast L =
+    (t : List ℕ) (ss : List Step) (before later : List Event) (e : Event) (n : ℕ) → tableWords ≤ length t → goodSteps ss ≡ true
+    → tableEvents L (freshen L t .table) ss ≡ before ++ e ∷ later → e .step .act ≡ drained n → accepted e ≡ true
+    → LastPicture n before e (onTable L t (stepsOf before) .records n)

@@ -1,21 +1,33 @@
 -- What was found lies within its bound, and what the slots from a place on say of all.
 use mathlib.Core.Path.{_≡_, refl, sym, ap, _∙_, subst}
 use mathlib.Core.Bool.{true, false}
-use mathlib.Core.List.{List, _∷_}
+use mathlib.Core.List.{List, [], _∷_}
 use Prim.Native.Nat.{ℕ, _+_, _<_}
 use native.Mathlib.Numerals.{add-one}
 use lib.ListN.{length, drop}
 use lib.Seq.{drop-cons}
+use Rattle.laws.specs.Lists.{allOf}
+use Rattle.laws.specs.Tests.{allBelow}
 use Rattle.laws.proofs.Tests.{never}
-use Rattle.model.specs.Device.{created, queued, dequeued, Slot, free, resource, buffer, queuedIn}
+use Rattle.laws.proofs.Pieces.{all-places}
+use Rattle.model.specs.Device.{created, queued, dequeued, Slot, free, resource, buffer, queuedIn, noResource}
 use Rattle.queue.specs.declared.Found.{Found}
 use Rattle.queue.specs.declared.Found.the-variants.{At}
 use Rattle.queue.specs.Found.{FoundBelow}
-use Rattle.queue.specs.Search.{slotAt, isQueued, numberIn, ticketIn, timestampIn}
+use Rattle.queue.specs.Search.{slotAt, isFree, isQueued, numberIn, ticketIn, timestampIn}
 
 -- a place that was found
 pub found-within : {r : Found} {k : ℕ} (n : ℕ) → r ≡ At k → FoundBelow r n → k < n
 found-within n e h = subst (λ (x : Found). FoundBelow x n) e h
+
+-- no slot holds a resource where each of them is free, by their places
+pub free-places : (s : List Slot) → length s ≡ 16 → noResource s ≡ allBelow 16 (λ k. isFree (slotAt k s))
+free-places s h = each-free s ∙ all-places isFree free s ∙ ap (λ (n : ℕ). allBelow n (λ k. isFree (slotAt k s))) h
+  where
+    each-free : (l : List Slot) → noResource l ≡ allOf isFree l
+    each-free [] = refl
+    each-free (free ∷ l) = each-free l
+    each-free (resource m p ∷ l) = refl
 
 -- the slots from i on are the slot at i and those behind it
 module _ (s : List Slot) (i : ℕ) (h : i < length s) where

@@ -17,6 +17,7 @@ pub use search::any_queued;
 pub use search::find_free;
 pub use search::find_resource;
 pub use search::next_queued;
+pub use search::no_resource;
 pub use slots::DEQUEUED;
 pub use slots::FIRST_SLOT;
 pub use slots::FREE;

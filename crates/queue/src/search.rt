@@ -4,7 +4,7 @@ ghost use mathlib.Core.Bool.{not};
 ghost use Prim.Native.Nat.{_+_, _<_};
 ghost use lib.ListN.{length, drop};
 ghost use Rattle.laws.specs.Lists.{isEmpty};
-ghost use Rattle.model.specs.Device.{Queue, queuedIn};
+ghost use Rattle.model.specs.Device.{Queue, queuedIn, noResource};
 ghost use Rattle.queue.specs.Words.{queueWords};
 ghost use Rattle.queue.specs.Search.{findResource, findFree, nextQueued};
 ghost use Rattle.queue.specs.Found.{foundAt, FoundBelow};
@@ -64,6 +64,21 @@ pub fn any_queued(q: &[u32]) -> bool
         i += 1;
     }
     false
+}
+
+// Whether no slot holds a resource.
+pub fn no_resource(q: &[u32]) -> bool
+    requires { ⌜ length (now q) ≡ 84 ⌝ }
+    ensures { λ r. ⌜ ((Q : Queue) → now (q .entry) ≡ queueWords Q → r ≡ noResource (Q .slots)) ⌝ }
+{
+    let mut k = 0;
+    while k < SLOTS {
+        if !slot_free(q, k) {
+            return false;
+        }
+        k += 1;
+    }
+    true
 }
 
 // The slot of the Queued buffer with the lowest number from `least` on.

@@ -1,14 +1,18 @@
 -- What the first words of a block say, and a block with other words there.
 use mathlib.Core.Path.{_≡_, refl, sym, ap, ap₂, _∙_}
-use mathlib.Core.Option.{Option, none, some}
+use mathlib.Core.Bool.{Bool, true, false, cond}
+use mathlib.Core.Option.{Option, none, some, Option·map}
 use mathlib.Core.List.{List, _∷_, _++_, append-assoc}
 use Prim.Native.Nat.{ℕ}
 use native.Mathlib.Omega.{arith}
 use lib.ListN.{length, getD, set, length-append}
+use lib.Dec.{eqb}
 use borrow.Author.Tests.{eqb-false}
+use Rattle.laws.specs.Lists.{isNone}
 use Rattle.laws.specs.Parts.{part, withPart, zeros, pieces}
+use Rattle.laws.proofs.Tests.{never}
 use Rattle.laws.proofs.Parts.{zero-length, zero-at, zeros-append, part-mid, withPart-mid}
-use Rattle.model.specs.Device.{Stream, Place, vacant, occupied, newQueue, newStream, drainTicket, withDrain}
+use Rattle.model.specs.Device.{PendingDrain, giveEos, ticketOf, givenFor, Stream, Place, vacant, occupied, newQueue, newStream, drainTicket, withDrain, lastGiven, withEos}
 use Rattle.queue.specs.Words.{queueWords}
 use Rattle.queue.proofs.Records.{queue-length}
 use Rattle.table.specs.Blocks.{drainWords, headWords, placeWords}
@@ -42,17 +46,33 @@ unfolding placeWords headWords
 format-word l n b e = ap (λ (x : List ℕ). getD x 2 0) e
 
 -- the words from 3 on
-no-drain-words : (d : Option ℕ) (z r : List ℕ) → getD (drainWords d ++ z ++ r) 0 0 ≡ 0 → none ≡ d
+no-drain-words : (d : Option PendingDrain) (z r : List ℕ) → getD (drainWords d ++ z ++ r) 0 0 ≡ 0 → none ≡ ticketOf d
 no-drain-words none z r e = refl
-no-drain-words (some t) z r e = absurd (eqb-false 1 0 refl e)
+no-drain-words (some d) z r e = absurd (of (d .eosGiven) e)
+  where
+    of : (given : Bool) → _≡_ {A = ℕ} (cond given 2 1) 0 → ⊥
+    of true e = eqb-false 2 0 refl e
+    of false e = eqb-false 1 0 refl e
 
-drain-words : (d : Option ℕ) (z r : List ℕ) → (getD (drainWords d ++ z ++ r) 0 0 ≡ 0 → ⊥) → some (getD (drainWords d ++ z ++ r) 1 0) ≡ d
+drain-words : (d : Option PendingDrain) (z r : List ℕ) → (getD (drainWords d ++ z ++ r) 0 0 ≡ 0 → ⊥) → some (getD (drainWords d ++ z ++ r) 1 0) ≡ ticketOf d
 drain-words none z r e = absurd (e refl)
-drain-words (some t) z r e = refl
+drain-words (some d) z r e = refl
 
-put-drain : (d : Option ℕ) (z r : List ℕ) (x y : ℕ) → set (set (drainWords d ++ z ++ r) 0 x) 1 y ≡ x ∷ y ∷ (z ++ r)
+given-words : (d : Option PendingDrain) (z r : List ℕ) → eqb (getD (drainWords d ++ z ++ r) 0 0) 2 ≡ givenFor d
+given-words none z r = refl
+given-words (some d) z r = of (d .eosGiven)
+  where
+    of : (given : Bool) → eqb (cond given 2 1) 2 ≡ given
+    of true = refl
+    of false = refl
+
+give-words : (d : Option PendingDrain) (z r : List ℕ) → isNone (ticketOf d) ≡ false → set (drainWords d ++ z ++ r) 0 2 ≡ drainWords (Option·map giveEos d) ++ z ++ r
+give-words none z r e = never e
+give-words (some d) z r e = refl
+
+put-drain : (d : Option PendingDrain) (z r : List ℕ) (x y : ℕ) → set (set (drainWords d ++ z ++ r) 0 x) 1 y ≡ x ∷ y ∷ (z ++ r)
 put-drain none z r x y = refl
-put-drain (some t) z r x y = refl
+put-drain (some d) z r x y = refl
 
 module _ (l : List ℕ) (n : ℕ) (b : Stream) (e : l ≡ placeWords (occupied n b)) where
   pub drain-absent : getD l 3 0 ≡ 0 → none ≡ drainTicket b
@@ -70,6 +90,14 @@ module _ (l : List ℕ) (n : ℕ) (b : Stream) (e : l ≡ placeWords (occupied n
   pub drain-dropped : set (set l 3 0) 4 0 ≡ placeWords (occupied n (withDrain none b))
   unfolding placeWords headWords
   drain-dropped = ap (λ (x : List ℕ). set (set x 3 0) 4 0) e ∙ ap (λ (x : List ℕ). 1 ∷ n ∷ b .format ∷ x) (put-drain (b .draining) (zeros 3) _ 0 0)
+
+  pub eos-word : eqb (getD l 3 0) 2 ≡ lastGiven b
+  unfolding placeWords headWords
+  eos-word = ap (λ (x : List ℕ). eqb (getD x 3 0) 2) e ∙ given-words (b .draining) (zeros 3) _
+
+  pub eos-set : isNone (drainTicket b) ≡ false → set l 3 2 ≡ placeWords (occupied n (withEos b))
+  unfolding placeWords headWords
+  eos-set z = ap (λ (x : List ℕ). set x 3 2) e ∙ ap (λ (x : List ℕ). 1 ∷ n ∷ b .format ∷ x) (give-words (b .draining) (zeros 3) _ z)
 
 -- A new stream
 

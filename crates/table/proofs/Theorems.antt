@@ -1,7 +1,7 @@
 -- The statements of specs/Promises, proved: the layout is lawful, valid is exactly the tables of well-formed devices, and condition 3 and the
 -- model's other promises hold over its tables.
 use mathlib.Core.Path.{_≡_, refl, sym, ap, ap₂, _∙_}
-use mathlib.Core.Bool.{true, _&&_}
+use mathlib.Core.Bool.{Bool, true, false, cond, _&&_}
 use mathlib.Core.Option.{Option, none, some}
 use mathlib.Core.List.{List, [], _++_}
 use Prim.Native.Nat.{ℕ, zero, suc, _+_, _*_, _/_, _%_, _^_, _<_}
@@ -20,7 +20,7 @@ use Rattle.laws.proofs.Parts.{zeros-append}
 use Rattle.laws.proofs.Pieces.{all-pieces}
 use Rattle.laws.proofs.Same.{same-refl}
 use Rattle.model.specs.Numbers.{tableWords, streamPlaces, streamNumbers, firstCoded, lastCoded}
-use Rattle.model.specs.Device.{created, queued, dequeued, Slot, free, resource, Queue, Stream, Place, vacant, occupied, Device, fresh, drainTicket}
+use Rattle.model.specs.Device.{created, queued, dequeued, Slot, free, resource, Queue, PendingDrain, ticketOf, Stream, Place, vacant, occupied, Device, fresh, drainTicket}
 use Rattle.model.specs.Commands.{goodExtent}
 use Rattle.model.specs.WellFormed.{u32, u64, goodSlot, goodSlots, goodQueue, goodDrain, goodPlace, wellFormed}
 use Rattle.model.specs.Tables.{valid}
@@ -133,12 +133,16 @@ narrow-queue q h =
     (both (and-right (goodExtent (q .height)) _ more)
     (all-pieces u32 slotWords goodSlot narrow-slot (q .slots) (and-left (allOf goodSlot (q .slots)) _ (and-right (eqb (length (q .slots)) 16) _ slots))))))
 
-narrow-drain : (d : Option ℕ) → goodDrain d ≡ true → allOf u32 (drainWords d ++ zeros 3) ≡ true
+narrow-drain : (d : Option PendingDrain) → goodDrain (ticketOf d) ≡ true → allOf u32 (drainWords d ++ zeros 3) ≡ true
 unfolding u32
 narrow-drain none h = narrow-zeros 3
-narrow-drain (some t) h = both h (narrow-zeros 3)
+narrow-drain (some d) h = both (of (d .eosGiven)) (both h (narrow-zeros 3))
+  where
+    of : (given : Bool) → u32 (cond given 2 1) ≡ true
+    of true = refl
+    of false = refl
 
-narrow-head : (n format : ℕ) (d : Option ℕ) → u32 n ≡ true → within format firstCoded lastCoded ≡ true → goodDrain d ≡ true → allOf u32 (headWords n format d) ≡ true
+narrow-head : (n format : ℕ) (d : Option PendingDrain) → u32 n ≡ true → within format firstCoded lastCoded ≡ true → goodDrain (ticketOf d) ≡ true → allOf u32 (headWords n format d) ≡ true
 unfolding headWords
 narrow-head n format d u w g =
     let high = within-bounds format firstCoded lastCoded w .1 in

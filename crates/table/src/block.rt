@@ -1,10 +1,12 @@
 // Functions on the 512 words of a stream place. The contracts speak of every stream whose words are lent.
 ghost use mathlib.Core.Path.{_≡_};
+ghost use mathlib.Core.Bool.{false};
 ghost use mathlib.Core.Option.{none, some};
 ghost use Prim.Native.Nat.{ℕ, _≤_};
 ghost use lib.ListN.{length};
+ghost use Rattle.laws.specs.Lists.{isNone};
 ghost use Rattle.laws.specs.Parts.{zeros};
-ghost use Rattle.model.specs.Device.{Stream, vacant, occupied, newQueue, newStream, drainTicket, withDrain};
+ghost use Rattle.model.specs.Device.{Stream, vacant, occupied, newQueue, newStream, drainTicket, withDrain, lastGiven, withEos};
 ghost use Rattle.queue.specs.Words.{queueWords};
 ghost use Rattle.table.specs.Blocks.{queueStart, placeWords};
 ghost use Rattle.protocol.specs.QueueTypes.{queueTypeOf};
@@ -14,7 +16,8 @@ use protocol::QueueType;
 use queue::HEIGHT;
 use queue::WIDTH;
 
-// The words of a block: whether the stream is live, its number and coded format, whether a drain is pending and its ticket, three without use, the two queues.
+// The words of a block: whether the stream is live, its number and coded format, whether a drain is pending (0, PENDING or LAST_GIVEN) and its ticket, three
+// without use, the two queues.
 pub const LIVE: usize = 0;
 
 pub const NUMBER: usize = 1;
@@ -24,6 +27,11 @@ pub const FORMAT: usize = 2;
 pub const DRAIN: usize = 3;
 
 pub const TICKET: usize = 4;
+
+// A drain is pending; and EOS was given since it was accepted.
+const PENDING: u32 = 1;
+
+pub const LAST_GIVEN: u32 = 2;
 
 pub const UNUSED: usize = 5;
 
@@ -103,8 +111,24 @@ pub fn set_drain(b: &mut [u32], ticket: u32)
     requires { ⌜ length (now b) ≡ 512 ⌝ }
     ensures { λ _. ⌜ ((n : ℕ) (s : Stream) → now (b .entry) ≡ placeWords (occupied n s) → now (b .exit) ≡ placeWords (occupied n (withDrain (some ticket) s))) ⌝ }
 {
-    b[DRAIN] = 1;
+    b[DRAIN] = PENDING;
     b[TICKET] = ticket;
+}
+
+// Whether EOS was given for the pending drain of the block's stream.
+pub fn last_given(b: &[u32]) -> bool
+    requires { ⌜ length (now b) ≡ 512 ⌝ }
+    ensures { λ r. ⌜ ((n : ℕ) (s : Stream) → now (b .entry) ≡ placeWords (occupied n s) → r ≡ lastGiven s) ⌝ }
+{
+    b[DRAIN] == LAST_GIVEN
+}
+
+// EOS is given for the pending drain of the block's stream.
+pub fn give_eos(b: &mut [u32])
+    requires { ⌜ length (now b) ≡ 512 ⌝ }
+    ensures { λ _. ⌜ ((n : ℕ) (s : Stream) → isNone (drainTicket s) ≡ false → now (b .entry) ≡ placeWords (occupied n s) → now (b .exit) ≡ placeWords (occupied n (withEos s))) ⌝ }
+{
+    b[DRAIN] = LAST_GIVEN;
 }
 
 // No drain of the block's stream is pending.

@@ -22,6 +22,7 @@ use table::BLOCKS_WORDS;
 use table::DRAIN;
 use table::FORMAT;
 use table::INPUTS;
+use table::LAST_GIVEN;
 use table::LIVE;
 use table::NUMBER;
 use table::OUTPUTS;
@@ -42,7 +43,7 @@ fn head_stands(h: &[u32]) -> bool
     if drain == 0 {
         return all_zero(&h[TICKET..INPUTS]);
     }
-    if drain == 1 {
+    if drain <= LAST_GIVEN {
         return all_zero(&h[UNUSED..INPUTS]);
     }
     false

@@ -4,7 +4,7 @@ use borrow.Author.Needs.{needs}
 use Rattle.model.specs.Device.{input, queueOf}
 use Rattle.protocol.specs.QueueTypes.{queueTypeOf}
 use Rattle.stream.proofs.Steps.{queue-words, queue-back, slots-distinct}
-use Rattle.completion.proofs.Ends.{answered-done, buffer-next, finish-answers}
+use Rattle.completion.proofs.Ends.{answered-done, eos-drain, buffer-next, finish-answers}
 use Rattle.completion.proofs.reports.answer_slot.Statement.{statement}
 use Rattle.completion.proofs.reports.answer_slot.Tie as tie
 
@@ -65,11 +65,14 @@ part-set-dequeued-end c = search needs
 set-dequeued-requires : tie.Need-set-dequeued-requires
 set-dequeued-requires c κs = search needs
 
+note-eos-requires : tie.Need-note-eos-requires
+note-eos-requires c κs = search needs
+
 put-buffer-requires : tie.Need-put-buffer-requires
 put-buffer-requires c κs = search needs
 
-cast-t27 : tie.Need-cast-t27
-cast-t27 c = omega (arith, buffer-next _ _ _ _ input (c .before .before .put-buffer .ensures input))
+cast-t29 : tie.Need-cast-t29
+cast-t29 c = omega (arith, buffer-next _ _ _ _ input (c .before .before .put-buffer .ensures input))
 
 same-length : tie.Need-same-length
 same-length c = search needs
@@ -79,17 +82,18 @@ same-length-2 c = search needs
 
 returns : tie.Need-returns
 returns c b m h found waits eos =
-    let after-put-buffer = c .before .before in let after-set-dequeued = after-put-buffer .before .before .before .before in
-    let after-timestamp-in = after-set-dequeued .before .before in let after-slot-ticket = after-timestamp-in .before .before .before in
-    let after-queue-start = after-slot-ticket .before .before .before in let at-start = after-queue-start .before .before .before in
-    let n = at-start .args .stream in
-    let q = queueTypeOf (at-start .args .queue) in
-    let start = after-queue-start .queue-start .ensures .1 in
+    let after-put-buffer = c .before .before in let after-note-eos = after-put-buffer .before .before .before .before in
+    let after-set-dequeued = after-note-eos .before .before .before .before in let after-timestamp-in = after-set-dequeued .before .before in
+    let after-slot-ticket = after-timestamp-in .before .before .before in let after-queue-start = after-slot-ticket .before .before .before in
+    let start = after-queue-start .before .before .before in
+    let n = start .args .stream in
+    let q = queueTypeOf (start .args .queue) in
+    let at = after-queue-start .queue-start .ensures .1 in
     answered-done _ _
-    (finish-answers n m (at-start .args .flags) (at-start .args .timestamp) b q (at-start .args .k) (slots-distinct h q) found waits _ _ eos
-    (after-slot-ticket .slot-ticket .ensures (queueOf q b) (queue-words h q _ start))
-    (λ i t. after-timestamp-in .timestamp-in .ensures (queueOf q b) i (queue-words h q _ start) t))
-    (queue-back h q _ start _ _ (after-set-dequeued .set-dequeued .ensures (queueOf q b)))
+    (finish-answers n m (start .args .flags) (start .args .timestamp) b q (start .args .k) (slots-distinct h q) found waits _ _ eos
+    (after-slot-ticket .slot-ticket .ensures (queueOf q b) (queue-words h q _ at))
+    (λ i t. after-timestamp-in .timestamp-in .ensures (queueOf q b) i (queue-words h q _ at) t))
+    (after-note-eos .note-eos .ensures n _ (queue-back h q _ at _ _ (after-set-dequeued .set-dequeued .ensures (queueOf q b))) (eos-drain (start .args .flags) q b _ eos))
     (after-put-buffer .put-buffer .ensures q)
 
 pub answer-slot-spec : {M : Type 1} → statement M
@@ -115,8 +119,9 @@ answer-slot-spec =
     part-set-dequeued-start
     part-set-dequeued-end
     set-dequeued-requires
+    note-eos-requires
     put-buffer-requires
-    cast-t27
+    cast-t29
     same-length
     same-length-2
     returns)

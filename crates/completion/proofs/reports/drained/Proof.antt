@@ -1,14 +1,12 @@
--- `completion::drained` meets its contract: by whether a drain is pending and an input is Queued.
+-- `completion::drained` meets its contract: by whether a drain is pending and over.
 use mathlib.Core.Path.{refl, sym, ap, _∙_}
 use native.Mathlib.Omega.{arith}
 use borrow.Author.Tests.{not-true, not-false}
 use borrow.Author.Needs.{needs}
-use Rattle.model.specs.Device.{input}
 use Rattle.model.specs.Answers.{drainDone}
 use Rattle.table.specs.Values.{drainOf}
 use Rattle.answer.proofs.Laws.{wrote-plain}
-use Rattle.stream.proofs.Steps.{queue-words}
-use Rattle.completion.proofs.Ends.{refused-done, answered-done, drained-none, drained-busy, drained-ends, plain-next}
+use Rattle.completion.proofs.Ends.{refused-done, answered-done, drained-none, drained-early, drained-ends, plain-next}
 use Rattle.completion.proofs.reports.drained.Statement.{statement}
 use Rattle.completion.proofs.reports.drained.Tie as tie
 
@@ -29,30 +27,13 @@ same-length c = search needs
 
 returns : tie.Need-returns
 returns c b h =
-    let after-enum-told = c .before in let after-pending-drain = after-enum-told .before .before in let start = after-pending-drain .before .before .before .before in
+    let after-enum-told = c .before in let after-pending-drain = after-enum-told .before .before in
+    let start = after-pending-drain .before .before .before .before in
     refused-done (c .refused .ensures) h
     (drained-none (start .args .stream) b (ap drainOf (sym (after-enum-told .enum-told .given .1)) ∙ after-pending-drain .pending-drain .ensures (start .args .stream) b (h .held)))
 
-queue-start-requires : tie.Need-queue-start-requires
-queue-start-requires c κs = search needs
-
-add-any-queued : tie.Need-add-any-queued
-add-any-queued c = search needs
-
-mul-any-queued : tie.Need-mul-any-queued
-mul-any-queued c = search needs
-
-sub-any-queued : tie.Need-sub-any-queued
-sub-any-queued c = search needs
-
-part-any-queued-start : tie.Need-part-any-queued-start
-part-any-queued-start c = search needs
-
-part-any-queued-end : tie.Need-part-any-queued-end
-part-any-queued-end c = search needs
-
-any-queued-requires : tie.Need-any-queued-requires
-any-queued-requires c κs = search needs
+drain-over-requires : tie.Need-drain-over-requires
+drain-over-requires c κs = search needs
 
 refused-requires-2 : tie.Need-refused-requires-2
 refused-requires-2 c κs = search needs
@@ -62,13 +43,12 @@ same-length-2 c = search needs
 
 returns-2 : tie.Need-returns-2
 returns-2 c b h =
-    let then1 = c .before in let after-any-queued = then1 .before in let after-queue-start = after-any-queued .before .before .before in
-    let after-drain = after-queue-start .before .before in let after-pending-drain = after-drain .before .before in
-    let start = after-pending-drain .before .before .before .before in
+    let then1 = c .before in let after-drain-over = then1 .before in let after-drain = after-drain-over .before .before .before in
+    let after-pending-drain = after-drain .before .before in let start = after-pending-drain .before .before .before .before in
     let n = start .args .stream in
     refused-done (c .refused2 .ensures) h
-    (drained-busy n b _ (ap drainOf (sym (after-drain .drain .given .1)) ∙ after-pending-drain .pending-drain .ensures n b (h .held))
-    (not-true _ (sym (after-any-queued .any-queued .ensures (b .inputs) (queue-words h input _ (after-queue-start .queue-start .ensures .1))) ∙ then1 .if1 .taken)))
+    (drained-early n b _ (ap drainOf (sym (after-drain .drain .given .1)) ∙ after-pending-drain .pending-drain .ensures n b (h .held))
+    (sym (after-drain-over .drain-over .ensures n b h) ∙ not-true _ (then1 .if1 .taken)))
 
 drop-drain-requires : tie.Need-drop-drain-requires
 drop-drain-requires c κs = search needs
@@ -76,8 +56,8 @@ drop-drain-requires c κs = search needs
 put-plain-requires : tie.Need-put-plain-requires
 put-plain-requires c κs = search needs
 
-cast-t23 : tie.Need-cast-t23
-cast-t23 c = omega (arith, plain-next _ _ _ (c .before .before .put-plain .ensures))
+cast-t18 : tie.Need-cast-t18
+cast-t18 c = omega (arith, plain-next _ _ _ (c .before .before .put-plain .ensures))
 
 same-length-3 : tie.Need-same-length-3
 same-length-3 c = search needs
@@ -88,13 +68,12 @@ same-length-4 c = search needs
 returns-3 : tie.Need-returns-3
 returns-3 c b h =
     let after-put-plain = c .before .before in let after-drop-drain = after-put-plain .before .before .before .before in
-    let else1 = after-drop-drain .before .before in let after-any-queued = else1 .before in let after-queue-start = after-any-queued .before .before .before in
-    let after-drain = after-queue-start .before .before in let after-pending-drain = after-drain .before .before in
-    let start = after-pending-drain .before .before .before .before in
+    let else1 = after-drop-drain .before .before in let after-drain-over = else1 .before in let after-drain = after-drain-over .before .before .before in
+    let after-pending-drain = after-drain .before .before in let start = after-pending-drain .before .before .before .before in
     let n = start .args .stream in
     answered-done _ _
     (drained-ends n b _ (ap drainOf (sym (after-drain .drain .given .1)) ∙ after-pending-drain .pending-drain .ensures n b (h .held))
-    (not-false _ (sym (after-any-queued .any-queued .ensures (b .inputs) (queue-words h input _ (after-queue-start .queue-start .ensures .1))) ∙ else1 .if1 .left)))
+    (sym (after-drain-over .drain-over .ensures n b h) ∙ not-false _ (else1 .if1 .left)))
     (after-drop-drain .drop-drain .ensures n b (h .held))
     (wrote-plain _ n drainDone refl (after-put-plain .put-plain .ensures))
 
@@ -108,19 +87,13 @@ drained-spec =
     refused-requires
     same-length
     returns
-    queue-start-requires
-    add-any-queued
-    mul-any-queued
-    sub-any-queued
-    part-any-queued-start
-    part-any-queued-end
-    any-queued-requires
+    drain-over-requires
     refused-requires-2
     same-length-2
     returns-2
     drop-drain-requires
     put-plain-requires
-    cast-t23
+    cast-t18
     same-length-3
     same-length-4
     returns-3)

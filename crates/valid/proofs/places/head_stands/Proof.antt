@@ -39,8 +39,8 @@ all-zero-requires-2 c κs = search needs
 
 returns-2 : tie.Need-returns-2
 returns-2 c =
-    let then2 = c .before .before in let start = then2 .before .before .before .before in
-    c .all-zero2 .ensures ∙ head-draining _ (start .pre .0) (start .pre .1) (then2 .if2 .taken)
+    let then2 = c .before .before in let else1 = then2 .before in let start = else1 .before .before .before in
+    c .all-zero2 .ensures ∙ head-draining _ (start .pre .0) (start .pre .1) (else1 .if1 .left) (then2 .if2 .taken)
 
 returns-3 : tie.Need-returns-3
 returns-3 c =
