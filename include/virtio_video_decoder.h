@@ -208,7 +208,7 @@ struct virtio_video_resource_queue {
 
 enum virtio_video_buffer_flag {
 	VIRTIO_VIDEO_BUFFER_FLAG_ERR = 0x0001,	/* failed, or stopped */
-	VIRTIO_VIDEO_BUFFER_FLAG_EOS = 0x0002,	/* last output of a drain */
+	VIRTIO_VIDEO_BUFFER_FLAG_EOS = 0x0002,	/* last output of a drain, once for each */
 };
 
 /* A buffer's answer; its type is VIRTIO_VIDEO_RESP_OK_RESOURCE_QUEUE */
@@ -331,10 +331,14 @@ enum virtio_video_refusal {
 	VIRTIO_VIDEO_REFUSAL_SHORT_COMMAND = 4,
 	/*
 	 * finish: that buffer is not Queued now. drained: no such stream, no drain is pending,
-	 * or an input is still Queued
+	 * an input is still Queued, or no output was finished with EOS since the drain was
+	 * accepted and the stream has output resources, in whatever state
 	 */
 	VIRTIO_VIDEO_REFUSAL_UNEXPECTED_REPORT = 5,
-	/* flags other than ERR and EOS; EOS on an input, or with no drain pending */
+	/*
+	 * flags other than ERR and EOS; EOS on an input, with no drain pending, or a second time
+	 * for the same drain
+	 */
 	VIRTIO_VIDEO_REFUSAL_BAD_FLAGS = 6,
 };
 
@@ -393,13 +397,20 @@ virtio_video_command(uint32_t *table, size_t words, uint32_t ticket,
 /*
  * The back end is done with a Queued buffer. flags are VIRTIO_VIDEO_BUFFER_FLAG_ERR and
  * VIRTIO_VIDEO_BUFFER_FLAG_EOS; timestamp goes into the answer of an output.
+ *
+ * EOS, alone or with ERR, tells the guest that this is the last output of the pending drain.
+ * It is taken once for each drain, and leaves the drain pending.
  */
 struct virtio_video_outcome
 virtio_video_finish(uint32_t *table, size_t words, uint32_t stream,
 		    uint32_t queue_type, uint32_t resource, uint32_t flags,
 		    uint64_t timestamp, uint8_t *answers, size_t answers_len);
 
-/* The back end has drained a stream: its STREAM_DRAIN is answered. */
+/*
+ * The back end has drained a stream: its STREAM_DRAIN is answered. By then every input has been
+ * finished, and an output with EOS, so that the guest knows its last picture. A stream that has
+ * no output resources when the report comes needs no EOS. Outputs may be Queued, and stay so.
+ */
 struct virtio_video_outcome
 virtio_video_drained(uint32_t *table, size_t words, uint32_t stream,
 		     uint8_t *answers, size_t answers_len);

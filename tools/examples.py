@@ -333,6 +333,64 @@ def edges():
     log.command("destroy stream 9", destroy(9), ok)
     log.command("create stream 0", create(0), ok)
     log.command("create stream 0 again", create(0), invalid)
+
+    # Stream 7 is there and has no resources yet.
+    log.command("stream 7: create output 1", resource(7, OUTPUT, 1), ok)
+    draining = log.command("drain", drain(7))
+    log.drained("drained, no EOS, output 1 Created", 7, refused(5))
+    picture = log.command("queue output 1", queue(7, OUTPUT, 1, 1))
+    log.drained("drained, no EOS, output 1 Queued", 7, refused(5))
+    log.finish("finish output 1, timestamp 71, ERR", 7, OUTPUT, 1, 1, 71, buffer(picture, 71, 1))
+    log.drained("drained, no EOS, output 1 Dequeued", 7, refused(5))
+    picture = log.command("queue output 1", queue(7, OUTPUT, 1, 2))
+    log.finish("finish output 1, timestamp 72, EOS", 7, OUTPUT, 1, 2, 72, buffer(picture, 72, 2))
+    log.drained("drained", 7, drained(draining))
+
+    draining = log.command("drain: it starts without EOS", drain(7))
+    log.drained("drained, no EOS for this drain", 7, refused(5))
+    log.command("create output 2", resource(7, OUTPUT, 2), ok)
+    one = log.command("queue output 1", queue(7, OUTPUT, 1, 3))
+    two = log.command("queue output 2", queue(7, OUTPUT, 2, 4))
+    log.finish("finish output 1, timestamp 73, ERR and EOS", 7, OUTPUT, 1, 3, 73, buffer(one, 73, 3))
+    log.finish("finish output 2, a second EOS", 7, OUTPUT, 2, 2, 74, refused(6))
+    log.finish("finish output 2, ERR and a second EOS", 7, OUTPUT, 2, 3, 74, refused(6))
+    log.finish("finish output 1, which is not Queued, a second EOS", 7, OUTPUT, 1, 2, 74, refused(5))
+    log.finish("finish output 2, timestamp 74", 7, OUTPUT, 2, 0, 74, buffer(two, 74))
+    log.command("drain again", drain(7), error(0x0300))
+    two = log.command("queue output 2, timestamp 5", queue(7, OUTPUT, 2, 5))
+    log.command("clear the output: EOS stays given", clear(7, OUTPUT), buffer(two, 5, 1), ok)
+    log.drained("drained", 7, drained(draining))
+
+    log.command("create input 1", resource(7, INPUT, 1), ok)
+    first = log.command("queue input 1, timestamp 6", queue(7, INPUT, 1, 6))
+    draining = log.command("drain", drain(7))
+    one = log.command("queue output 1", queue(7, OUTPUT, 1, 7))
+    two = log.command("queue output 2", queue(7, OUTPUT, 2, 8))
+    log.finish("finish output 1, timestamp 75, EOS, an input Queued", 7, OUTPUT, 1, 2, 75, buffer(one, 75, 2))
+    log.drained("drained, EOS given, an input Queued", 7, refused(5))
+    log.command("clear the input: the drain ends", clear(7, INPUT), buffer(first, 6, 1), drained(draining), ok)
+    log.finish("finish output 2, EOS and no drain pending", 7, OUTPUT, 2, 2, 76, refused(6))
+    draining = log.command("drain: it starts without EOS", drain(7))
+    log.drained("drained, no EOS for this drain", 7, refused(5))
+    log.finish("finish output 2, timestamp 76, EOS", 7, OUTPUT, 2, 2, 76, buffer(two, 76, 2))
+    one = log.command("queue output 1", queue(7, OUTPUT, 1, 9))
+    log.drained("drained, EOS given, output 1 Queued", 7, drained(draining))
+    log.finish("finish output 1, timestamp 77", 7, OUTPUT, 1, 0, 77, buffer(one, 77))
+
+    draining = log.command("drain", drain(7))
+    log.drained("drained, no EOS", 7, refused(5))
+    log.command("destroy all outputs", destroy_all(7, OUTPUT), ok)
+    log.drained("drained, no EOS, no output left", 7, drained(draining))
+    draining = log.command("drain", drain(7))
+    log.command("create output 3, a first", resource(7, OUTPUT, 3), ok)
+    log.drained("drained, no EOS, an output made since the drain", 7, refused(5))
+    picture = log.command("queue output 3", queue(7, OUTPUT, 3, 10))
+    log.finish("finish output 3, timestamp 78, EOS", 7, OUTPUT, 3, 2, 78, buffer(picture, 78, 2))
+    log.command("destroy all outputs: EOS stays given", destroy_all(7, OUTPUT), ok)
+    log.command("create output 4", resource(7, OUTPUT, 4), ok)
+    log.drained("drained", 7, drained(draining))
+    draining = log.command("stream 8, which has no resources: drain", drain(8))
+    log.drained("drained, no EOS, no outputs", 8, drained(draining))
     return log
 
 
@@ -460,7 +518,7 @@ def orders():
 
     kept = log.command("stream 1: drain", drain(1))
     log.finish("finish: EOS on an input while draining", 1, INPUT, 1, 2, 0, refused(6))
-    log.drained("drained: an input Queued", 1, refused(5))
+    log.drained("drained: an input Queued, no EOS", 1, refused(5))
     log.command("get: nothing above changed stream 1", get_params(1, OUTPUT), parameters(OUTPUT, NV12, 640, 480))
     log.command("destroy stream 1", destroy(1), buffer(first, 1, 1), buffer(picture, 2, 1), drained(kept), ok)
     log.command("clear the input of stream 2", clear(2, INPUT), drained(draining), ok)
@@ -488,6 +546,31 @@ def orders():
     log.finish("finish: stream destroyed", 1, INPUT, 1, 0, 0, refused(5))
     log.finish("finish: stream destroyed, EOS", 1, OUTPUT, 1, 2, 0, refused(5))
     log.drained("drained: stream destroyed", 1, refused(5))
+
+    # Stream 3 drains with input 1 and output 1 Queued; EOS is refused three times before it is given.
+    log.command("stream 3: create input 1", resource(3, INPUT, 1), ok)
+    for number in 1, 2:
+        log.command("create outputs 1 and 2", resource(3, OUTPUT, number), ok)
+    first = log.command("queue input 1, timestamp 3", queue(3, INPUT, 1, 3))
+    one = log.command("queue output 1", queue(3, OUTPUT, 1, 4))
+    draining = log.command("drain", drain(3))
+    log.finish("finish: flags 6, EOS among them", 3, OUTPUT, 1, 6, 0, refused(6))
+    log.finish("finish: EOS on an input", 3, INPUT, 1, 2, 0, refused(6))
+    log.finish("finish: not Queued, EOS", 3, OUTPUT, 2, 2, 0, refused(5))
+    log.drained("drained: an input Queued, no EOS", 3, refused(5))
+    two = log.command("queue output 2", queue(3, OUTPUT, 2, 5))
+    text = "finish output 1, timestamp 33, EOS: what was refused gave none"
+    log.finish(text, 3, OUTPUT, 1, 2, 33, buffer(one, 33, 2))
+    log.finish("finish: flags 6, not Queued, a second EOS", 3, OUTPUT, 1, 6, 0, refused(6))
+    log.finish("finish: bad queue type, a second EOS", 3, 0x102, 2, 2, 0, refused(5))
+    log.finish("finish: not Queued, a second EOS", 3, OUTPUT, 1, 2, 0, refused(5))
+    log.finish("finish: a second EOS, on an input", 3, INPUT, 1, 2, 0, refused(6))
+    log.finish("finish: a second EOS", 3, OUTPUT, 2, 2, 0, refused(6))
+    log.finish("finish: ERR and a second EOS", 3, OUTPUT, 2, 3, 0, refused(6))
+    log.drained("drained: an input Queued, EOS given", 3, refused(5))
+    log.finish("finish input 1", 3, INPUT, 1, 0, 0, buffer(first, 3))
+    log.drained("drained: nothing above took the EOS back", 3, drained(draining))
+    log.finish("finish output 2, timestamp 34", 3, OUTPUT, 2, 0, 34, buffer(two, 34))
     return log
 
 
@@ -559,6 +642,29 @@ def streams():
     log.command("create stream 48, which is 32 further on", create(48), ok)
     for stream in 16, 48:
         log.command("destroy streams 16 and 48", destroy(stream), ok)
+
+    for stream in 17, 18:
+        log.command("create streams 17 and 18", create(stream), ok)
+    for stream in 17, 18:
+        log.command("create output 1 of both", resource(stream, OUTPUT, 1), ok)
+    seventeen = log.command("queue output 1 of stream 17", queue(17, OUTPUT, 1))
+    eighteen = log.command("queue output 1 of stream 18", queue(18, OUTPUT, 1))
+    draining = log.command("drain stream 17", drain(17))
+    other = log.command("drain stream 18", drain(18))
+    log.finish("finish output 1 of stream 17, timestamp 500, EOS", 17, OUTPUT, 1, 2, 500, buffer(seventeen, 500, 2))
+    log.drained("stream 18 drained, but the EOS was of stream 17", 18, refused(5))
+    log.finish("finish output 1 of stream 18, timestamp 501, EOS", 18, OUTPUT, 1, 2, 501, buffer(eighteen, 501, 2))
+    log.drained("stream 18 drained", 18, drained(other))
+    log.command("destroy stream 17", destroy(17), drained(draining), ok)
+    log.command("create stream 19, where stream 17 stood", create(19), ok)
+    log.command("create output 1 of stream 19", resource(19, OUTPUT, 1), ok)
+    draining = log.command("drain stream 19", drain(19))
+    log.drained("stream 19 drained, but no EOS is left of stream 17", 19, refused(5))
+    picture = log.command("queue output 1 of stream 19", queue(19, OUTPUT, 1))
+    log.finish("finish output 1 of stream 19, timestamp 502, EOS", 19, OUTPUT, 1, 2, 502, buffer(picture, 502, 2))
+    log.drained("stream 19 drained", 19, drained(draining))
+    for stream in 18, 19:
+        log.command("destroy streams 18 and 19", destroy(stream), ok)
     return log
 
 

@@ -15,6 +15,12 @@
 #define INPUT	VIRTIO_VIDEO_QUEUE_TYPE_INPUT
 #define OUTPUT	VIRTIO_VIDEO_QUEUE_TYPE_OUTPUT
 
+/*
+ * Where the first stream's drain stands: 0 if none is pending, 1 if one is, 2 if EOS was given
+ * for it. Its ticket follows.
+ */
+#define DRAIN	3
+
 /* The words of the spent numbers begin here: number n is bit n % 32 of word SPENT + n / 32 */
 #define SPENT	4096
 
@@ -194,9 +200,9 @@ static void finish(const char *what, uint32_t queue_type, uint32_t resource, uin
 	       refusal, hex);
 }
 
-static void drained(uint32_t refusal, const char *hex)
+static void drained(const char *what, uint32_t refusal, const char *hex)
 {
-	printf("back end: the stream is drained\n");
+	printf("back end: %s\n", what);
 	expect(virtio_video_drained(table, VIRTIO_VIDEO_TABLE_WORDS, STREAM, room, sizeof(room)),
 	       refusal, hex);
 }
@@ -366,72 +372,91 @@ static void draining(void)
 	queue(19, "queue input 5 while draining", INPUT, 5, 1,
 	      "13000000 08000000 00030000 07000000");
 	queue(20, "queue output 5 while draining", OUTPUT, 5, 0, "");
-	drained(VIRTIO_VIDEO_REFUSAL_UNEXPECTED_REPORT, "");
+	drained("the stream is drained, with input 6 Queued",
+		VIRTIO_VIDEO_REFUSAL_UNEXPECTED_REPORT, "");
 	finish("input 6 is done, and failed", INPUT, 6, VIRTIO_VIDEO_BUFFER_FLAG_ERR, 0, 0,
 	       "10000000 18000000 02020000 07000000 0200000001000000 01000000 00000000");
+	/* there is an output, so the guest waits for the last one */
+	drained("the stream is drained, without a last output",
+		VIRTIO_VIDEO_REFUSAL_UNEXPECTED_REPORT, "");
 	finish("output 5 is done, the last one", OUTPUT, 5, VIRTIO_VIDEO_BUFFER_FLAG_EOS,
 	       UINT64_C(0x100000002), 0,
 	       "14000000 18000000 02020000 07000000 0200000001000000 02000000 00000000");
-	drained(0, "11000000 08000000 00020000 07000000");
-	drained(VIRTIO_VIDEO_REFUSAL_UNEXPECTED_REPORT, "");
+	if (table[DRAIN] != 2 || table[DRAIN + 1] != 17)
+		wrong("the drain in the table");
+	queue(21, "queue output 5 again", OUTPUT, 5, 80, "");
+	finish("output 5 is done, a second last one", OUTPUT, 5, VIRTIO_VIDEO_BUFFER_FLAG_EOS, 0,
+	       VIRTIO_VIDEO_REFUSAL_BAD_FLAGS, "");
+	/* output 5 stays Queued, for what is decoded next */
+	drained("the stream is drained", 0, "11000000 08000000 00020000 07000000");
+	drained("the stream is drained, told twice", VIRTIO_VIDEO_REFUSAL_UNEXPECTED_REPORT, "");
 }
 
 static void stopping(void)
 {
-	queue(21, "queue input 6", INPUT, 6, 60, "");
-	queue(22, "queue input 5", INPUT, 5, 50, "");
-	of_queue(23, "destroy all inputs", VIRTIO_VIDEO_CMD_RESOURCE_DESTROY_ALL, INPUT,
-		 "17000000 08000000 00030000 07000000");
-	plain(24, "drain", VIRTIO_VIDEO_CMD_STREAM_DRAIN, "");
-	of_queue(25, "clear the empty output queue", VIRTIO_VIDEO_CMD_QUEUE_CLEAR, OUTPUT,
-		 "19000000 08000000 00020000 07000000");
-	/* 5 before 6, then the drain, then itself */
-	of_queue(26, "clear the input queue", VIRTIO_VIDEO_CMD_QUEUE_CLEAR, INPUT,
-		 "16000000 18000000 02020000 07000000 3200000000000000 01000000 00000000"
-		 "15000000 18000000 02020000 07000000 3c00000000000000 01000000 00000000"
-		 "18000000 08000000 00020000 07000000"
+	queue(22, "queue input 6", INPUT, 6, 60, "");
+	queue(23, "queue input 5", INPUT, 5, 50, "");
+	of_queue(24, "destroy all inputs", VIRTIO_VIDEO_CMD_RESOURCE_DESTROY_ALL, INPUT,
+		 "18000000 08000000 00030000 07000000");
+	plain(25, "drain", VIRTIO_VIDEO_CMD_STREAM_DRAIN, "");
+	/* the drain goes on */
+	of_queue(26, "clear the output queue", VIRTIO_VIDEO_CMD_QUEUE_CLEAR, OUTPUT,
+		 "15000000 18000000 02020000 07000000 5000000000000000 01000000 00000000"
 		 "1a000000 08000000 00020000 07000000");
-	of_queue(27, "destroy all inputs", VIRTIO_VIDEO_CMD_RESOURCE_DESTROY_ALL, INPUT,
+	/* 5 before 6, then the drain, then itself */
+	of_queue(27, "clear the input queue", VIRTIO_VIDEO_CMD_QUEUE_CLEAR, INPUT,
+		 "17000000 18000000 02020000 07000000 3200000000000000 01000000 00000000"
+		 "16000000 18000000 02020000 07000000 3c00000000000000 01000000 00000000"
+		 "19000000 08000000 00020000 07000000"
 		 "1b000000 08000000 00020000 07000000");
-	of_queue(28, "query a control", VIRTIO_VIDEO_CMD_QUERY_CONTROL,
-		 VIRTIO_VIDEO_CONTROL_PROFILE, "1c000000 08000000 05030000 07000000");
-	plain(29, "query capability", VIRTIO_VIDEO_CMD_QUERY_CAPABILITY,
-	      "1d000000 08000000 00030000 07000000");
-	queue(30, "queue output 5", OUTPUT, 5, 90, "");
-	plain(31, "drain", VIRTIO_VIDEO_CMD_STREAM_DRAIN, "");
-	plain(32, "destroy the stream", VIRTIO_VIDEO_CMD_STREAM_DESTROY,
-	      "1e000000 18000000 02020000 07000000 5a00000000000000 01000000 00000000"
-	      "1f000000 08000000 00020000 07000000"
-	      "20000000 08000000 00020000 07000000");
-	plain(33, "destroy the stream again", VIRTIO_VIDEO_CMD_STREAM_DESTROY,
-	      "21000000 08000000 02030000 07000000");
+	of_queue(28, "destroy all inputs", VIRTIO_VIDEO_CMD_RESOURCE_DESTROY_ALL, INPUT,
+		 "1c000000 08000000 00020000 07000000");
+	of_queue(29, "query a control", VIRTIO_VIDEO_CMD_QUERY_CONTROL,
+		 VIRTIO_VIDEO_CONTROL_PROFILE, "1d000000 08000000 05030000 07000000");
+	plain(30, "query capability", VIRTIO_VIDEO_CMD_QUERY_CAPABILITY,
+	      "1e000000 08000000 00030000 07000000");
+	queue(31, "queue output 5", OUTPUT, 5, 90, "");
+	plain(32, "drain", VIRTIO_VIDEO_CMD_STREAM_DRAIN, "");
+	plain(33, "destroy the stream", VIRTIO_VIDEO_CMD_STREAM_DESTROY,
+	      "1f000000 18000000 02020000 07000000 5a00000000000000 01000000 00000000"
+	      "20000000 08000000 00020000 07000000"
+	      "21000000 08000000 00020000 07000000");
+	plain(34, "destroy the stream again", VIRTIO_VIDEO_CMD_STREAM_DESTROY,
+	      "22000000 08000000 02030000 07000000");
 }
 
 /* What comes of a number once its stream is gone: no other stream gets it. */
 static void spent_numbers(void)
 {
-	create(34, "create the stream again", "lobby", "22000000 08000000 02030000 07000000");
-	create(35, "create it with a tag that is not UTF-8", "\xff",
-	       "23000000 08000000 02030000 07000000");
+	create(35, "create the stream again", "lobby", "23000000 08000000 02030000 07000000");
+	create(36, "create it with a tag that is not UTF-8", "\xff",
+	       "24000000 08000000 02030000 07000000");
 	/* so nothing that comes late can meet another stream */
 	finish("output 5 is done, too late", OUTPUT, 5, 0, 90,
 	       VIRTIO_VIDEO_REFUSAL_UNEXPECTED_REPORT, "");
-	drained(VIRTIO_VIDEO_REFUSAL_UNEXPECTED_REPORT, "");
-	create_stream(36, "create stream 1,024", VIRTIO_VIDEO_STREAM_NUMBERS, "",
-		      "24000000 08000000 02030000 00040000");
-	create_stream(37, "create stream 1,023", VIRTIO_VIDEO_STREAM_NUMBERS - 1, "",
-		      "25000000 08000000 00020000 ff030000");
-	create_stream(38, "create it again", VIRTIO_VIDEO_STREAM_NUMBERS - 1, "",
-		      "26000000 08000000 02030000 ff030000");
+	drained("the stream is drained, too late", VIRTIO_VIDEO_REFUSAL_UNEXPECTED_REPORT, "");
+	create_stream(37, "create stream 1,024", VIRTIO_VIDEO_STREAM_NUMBERS, "",
+		      "25000000 08000000 02030000 00040000");
+	create_stream(38, "create stream 1,023", VIRTIO_VIDEO_STREAM_NUMBERS - 1, "",
+		      "26000000 08000000 00020000 ff030000");
+	create_stream(39, "create it again", VIRTIO_VIDEO_STREAM_NUMBERS - 1, "",
+		      "27000000 08000000 02030000 ff030000");
 	if (table[SPENT] != UINT32_C(0x80) || table[SPENT + 31] != UINT32_C(0x80000000))
 		wrong("the spent numbers in the table");
 
 	printf("host: makes the table fresh, as at a reset of the device\n");
 	if (virtio_video_fresh(table, VIRTIO_VIDEO_TABLE_WORDS) != VIRTIO_VIDEO_REFUSAL_NONE)
 		wrong("a table not made fresh");
-	create(39, "create stream 7", "lobby", "27000000 08000000 00020000 07000000");
-	plain(40, "destroy it", VIRTIO_VIDEO_CMD_STREAM_DESTROY,
-	      "28000000 08000000 00020000 07000000");
+	create(40, "create stream 7", "lobby", "28000000 08000000 00020000 07000000");
+}
+
+/* A stream that has no outputs has no last one to wait for. */
+static void without_outputs(void)
+{
+	plain(41, "drain", VIRTIO_VIDEO_CMD_STREAM_DRAIN, "");
+	drained("the stream is drained", 0, "29000000 08000000 00020000 07000000");
+	plain(42, "destroy the stream", VIRTIO_VIDEO_CMD_STREAM_DESTROY,
+	      "2a000000 08000000 00020000 07000000");
 }
 
 /* The host's own slips, and a guest that sends half a header */
@@ -440,22 +465,22 @@ static void refusals(void)
 	struct virtio_video_cmd_hdr c = header(VIRTIO_VIDEO_CMD_STREAM_DRAIN);
 	const uint8_t *frame = (const uint8_t *)&c;
 
-	command(41, "a command of 7 bytes", &c, 7, VIRTIO_VIDEO_REFUSAL_SHORT_COMMAND, "");
-	command(42, "a command of no bytes", NULL, 0, VIRTIO_VIDEO_REFUSAL_SHORT_COMMAND, "");
+	command(43, "a command of 7 bytes", &c, 7, VIRTIO_VIDEO_REFUSAL_SHORT_COMMAND, "");
+	command(44, "a command of no bytes", NULL, 0, VIRTIO_VIDEO_REFUSAL_SHORT_COMMAND, "");
 	printf("host: lends nothing\n");
-	expect(virtio_video_command(NULL, 0, 43, NULL, 0, NULL, 0),
+	expect(virtio_video_command(NULL, 0, 45, NULL, 0, NULL, 0),
 	       VIRTIO_VIDEO_REFUSAL_SHORT_TABLE, "");
 	printf("host: lends a short table\n");
-	expect(virtio_video_command(table, VIRTIO_VIDEO_TABLE_WORDS - 1, 44, frame, sizeof(c),
+	expect(virtio_video_command(table, VIRTIO_VIDEO_TABLE_WORDS - 1, 46, frame, sizeof(c),
 				    room, sizeof(room)),
 	       VIRTIO_VIDEO_REFUSAL_SHORT_TABLE, "");
 	printf("host: lends a short room\n");
-	expect(virtio_video_command(table, VIRTIO_VIDEO_TABLE_WORDS, 45, frame, sizeof(c), room,
+	expect(virtio_video_command(table, VIRTIO_VIDEO_TABLE_WORDS, 47, frame, sizeof(c), room,
 				    sizeof(room) - 1),
 	       VIRTIO_VIDEO_REFUSAL_SHORT_ROOM, "");
 	printf("host: lends a table with a word changed\n");
 	table[VIRTIO_VIDEO_TABLE_WORDS - 1] = 1;
-	expect(virtio_video_command(table, VIRTIO_VIDEO_TABLE_WORDS, 46, frame, sizeof(c), room,
+	expect(virtio_video_command(table, VIRTIO_VIDEO_TABLE_WORDS, 48, frame, sizeof(c), room,
 				    sizeof(room)),
 	       VIRTIO_VIDEO_REFUSAL_INVALID_TABLE, "");
 	table[VIRTIO_VIDEO_TABLE_WORDS - 1] = 0;
@@ -553,6 +578,7 @@ int main(void)
 	draining();
 	stopping();
 	spent_numbers();
+	without_outputs();
 	refusals();
 	playing();
 

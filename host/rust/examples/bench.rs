@@ -39,7 +39,11 @@ fn command(frame: Vec<u8>) -> Act {
 }
 
 fn finish(stream: u32, queue: QueueType, resource: u32) -> Act {
-    Act::Finish(Report { stream, queue_type: queue.number(), resource, flags: 0, timestamp: 1 })
+    finish_with(0, stream, queue, resource)
+}
+
+fn finish_with(flags: u32, stream: u32, queue: QueueType, resource: u32) -> Act {
+    Act::Finish(Report { stream, queue_type: queue.number(), resource, flags, timestamp: 1 })
 }
 
 /// Streams 0 and on, each with so many resources in either queue, Queued or not.
@@ -98,9 +102,14 @@ fn cases() -> Vec<Case> {
             ],
         },
         Case {
-            name: "drain and drained, 1 stream",
+            name: "drain, EOS and drained, 1 stream",
             table: small(),
-            round: vec![command(guest::drain(0)), Act::Drained { stream: 0 }],
+            round: vec![
+                command(guest::drain(0)),
+                command(guest::queue(0, Output, 3, 1)),
+                finish_with(wire::BUFFER_FLAG_EOS, 0, Output, 3),
+                Act::Drained { stream: 0 },
+            ],
         },
         Case {
             name: "create and destroy, 1 other stream",

@@ -99,15 +99,19 @@ fn main() {
     host.command("queue output 1", &guest::queue(7, Output, 1, 0));
     host.command("drain", &guest::drain(7));
     host.command("queue input 1, too late", &guest::queue(7, Input, 1, 1066));
+    // Too early: an input is Queued, and then the last output is missing.
     host.drained();
     host.finish(Input, 2, 0, 0);
+    host.drained();
+    host.finish(Output, 1, wire::BUFFER_FLAG_EOS, 1033);
+    // One last output is enough.
+    host.command("queue output 1", &guest::queue(7, Output, 1, 0));
     host.finish(Output, 1, wire::BUFFER_FLAG_EOS, 1033);
     host.drained();
 
     host.command("queue input 2", &guest::queue(7, Input, 2, 2033));
     host.command("queue input 1", &guest::queue(7, Input, 1, 2000));
     host.command("clear the input queue", &guest::clear(7, Input));
-    host.command("queue output 1", &guest::queue(7, Output, 1, 0));
     host.command("destroy stream 7", &guest::destroy(7));
     host.finish(Output, 1, 0, 2066);
     host.command("create stream 7 again", &guest::create(7, h264, ""));

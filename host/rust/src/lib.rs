@@ -82,7 +82,8 @@ pub struct Finish {
     pub queue: QueueType,
     /// The resource's number.
     pub resource: u32,
-    /// [`wire::BUFFER_FLAG_ERR`], and on the last output of a drain [`wire::BUFFER_FLAG_EOS`].
+    /// [`wire::BUFFER_FLAG_ERR`], and on the last output of a drain [`wire::BUFFER_FLAG_EOS`], alone
+    /// or with it.
     pub flags: u32,
     /// For an output: that of the input which it was decoded from. Not used for an input.
     pub timestamp: u64,
@@ -179,6 +180,9 @@ impl Decoder {
 
     /// The back end is done with a Queued buffer, whose queueing is now answered.
     ///
+    /// With [`wire::BUFFER_FLAG_EOS`] it is the last output of the pending drain. That is taken once
+    /// for each drain, and leaves the drain pending until it is [`drained`](Decoder::drained).
+    ///
     /// # Errors
     ///
     /// [`Refusal::UnexpectedReport`], [`Refusal::BadFlags`] and [`Refusal::InvalidTable`].
@@ -210,22 +214,51 @@ impl Decoder {
 
     /// The back end has drained the stream, whose drain is now answered.
     ///
+    /// By then every input has been finished, and an output with [`wire::BUFFER_FLAG_EOS`], so that
+    /// the guest knows its last picture. A stream that has no output resources when the report comes
+    /// needs no EOS. Outputs may be Queued, and stay so.
+    ///
     /// # Errors
     ///
     /// [`Refusal::UnexpectedReport`] and [`Refusal::InvalidTable`].
     ///
     /// ```
-    /// use virtio_video_decoder::{wire, Decoder, Refusal};
+    /// use virtio_video_decoder::{wire, Decoder, Finish, QueueType, Refusal};
     ///
-    /// let mut create = [0; 88];
-    /// create[..2].copy_from_slice(&[0x01, 0x01]);
-    /// create[16..18].copy_from_slice(&[0x02, 0x10]); // H.264
-    /// let drain = [0x03, 0x01, 0, 0, 0, 0, 0, 0];
+    /// # fn frame(words: &[u32], length: usize) -> Vec<u8> {
+    /// #     let mut bytes: Vec<u8> = words.iter().flat_map(|word| word.to_le_bytes()).collect();
+    /// #     bytes.resize(length, 0);
+    /// #     bytes
+    /// # }
+    /// let create = frame(&[wire::CMD_STREAM_CREATE, 7, 0, 0, wire::FORMAT_H264], 88);
+    /// let drain = frame(&[wire::CMD_STREAM_DRAIN, 7], 8);
+    /// let mut import = frame(&[wire::CMD_RESOURCE_CREATE, 7, wire::QUEUE_TYPE_OUTPUT, 5, 1, 1], 88);
+    /// import[56] = 1; // one entry for the first plane
+    /// import.extend(frame(&[0x8000, 0, 4096], 16));
+    /// let queue = frame(&[wire::CMD_RESOURCE_QUEUE, 7, wire::QUEUE_TYPE_OUTPUT, 5], 64);
     ///
+    /// // Without outputs there is no last one to wait for.
     /// let mut decoder = Decoder::new();
     /// decoder.command(1, &create)?;
     /// assert_eq!(decoder.command(2, &drain)?.count(), 0);
-    /// assert_eq!(decoder.drained(0)?.next().unwrap().ticket, 2);
+    /// assert_eq!(decoder.drained(7)?.next().unwrap().ticket, 2);
+    ///
+    /// // With one, it has to be reported first, and once.
+    /// decoder.command(3, &import)?;
+    /// decoder.command(4, &queue)?;
+    /// decoder.command(5, &drain)?;
+    /// assert_eq!(decoder.drained(7).unwrap_err(), Refusal::UnexpectedReport);
+    /// let last = Finish {
+    ///     stream: 7,
+    ///     queue: QueueType::Output,
+    ///     resource: 5,
+    ///     flags: wire::BUFFER_FLAG_EOS,
+    ///     timestamp: 1000,
+    /// };
+    /// assert_eq!(decoder.finish(last)?.next().unwrap().ticket, 4);
+    /// decoder.command(6, &queue)?;
+    /// assert_eq!(decoder.finish(last).unwrap_err(), Refusal::BadFlags);
+    /// assert_eq!(decoder.drained(7)?.next().unwrap().ticket, 5);
     /// # Ok::<(), Refusal>(())
     /// ```
     pub fn drained(&mut self, stream: u32) -> Result<Answers<'_>, Refusal> {

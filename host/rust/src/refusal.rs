@@ -14,7 +14,8 @@ use std::fmt;
 /// assert_eq!(refusal.number(), 5);
 /// assert_eq!(
 ///     refusal.to_string(),
-///     "no such buffer is queued, no such drain is owed, or an input is still queued (refusal 5)"
+///     "no such buffer is queued, no such drain is pending, an input is still queued, \
+///      or EOS was not given (refusal 5)"
 /// );
 /// ```
 #[derive(Clone, Copy, Debug, PartialEq, Eq, Hash)]
@@ -29,9 +30,11 @@ pub enum Refusal {
     /// The command is shorter than its header of 8 bytes.
     ShortCommand = 4,
     /// A finish report names no buffer that is Queued now; or a drained report names no stream with
-    /// a drain pending, or one that still has an input Queued.
+    /// a drain pending, one that still has an input Queued, or one that has output resources and
+    /// was given no EOS since the drain was accepted.
     UnexpectedReport = 5,
-    /// Flags other than ERR and EOS; or EOS on an input, or with no drain pending.
+    /// Flags other than ERR and EOS; or EOS on an input, with no drain pending, or a second time for
+    /// the same drain.
     BadFlags = 6,
 }
 
@@ -65,10 +68,12 @@ impl fmt::Display for Refusal {
             Refusal::ShortRoom => "the answer room has fewer than 1056 bytes",
             Refusal::ShortCommand => "the command has no whole header",
             Refusal::UnexpectedReport => {
-                "no such buffer is queued, no such drain is owed, or an input is still queued"
+                "no such buffer is queued, no such drain is pending, an input is still queued, \
+                 or EOS was not given"
             }
             Refusal::BadFlags => {
-                "flags other than ERR and EOS, or EOS on an input or with no drain owed"
+                "flags other than ERR and EOS, or EOS on an input, with no drain pending \
+                 or a second time"
             }
         };
         write!(f, "{text} (refusal {})", self.number())

@@ -87,7 +87,7 @@ pub const FORMAT_VP9: u32 = 0x1005;
 
 /// Buffer flag: decoding failed, or was stopped by a clear or the stream's destruction.
 pub const BUFFER_FLAG_ERR: u32 = 0x0001;
-/// Buffer flag: the last output of a drain.
+/// Buffer flag: the last output of a drain. It is given once for each drain.
 pub const BUFFER_FLAG_EOS: u32 = 0x0002;
 
 /// Streams of a device at a time.
