@@ -391,6 +391,20 @@ def edges():
     log.drained("drained", 7, drained(draining))
     draining = log.command("stream 8, which has no resources: drain", drain(8))
     log.drained("drained, no EOS, no outputs", 8, drained(draining))
+
+    first = log.command("stream 7: queue input 1, timestamp 11", queue(7, INPUT, 1, 11))
+    draining = log.command("drain", drain(7))
+    log.finish("finish input 1, ERR", 7, INPUT, 1, 1, 0, buffer(first, 11, 1))
+    picture = log.command("queue output 4", queue(7, OUTPUT, 4, 12))
+    log.finish("finish output 4, timestamp 79", 7, OUTPUT, 4, 0, 79, buffer(picture, 79))
+    log.drained("drained, finishes but no EOS", 7, refused(5))
+    picture = log.command("queue output 4", queue(7, OUTPUT, 4, 13))
+    log.finish("finish output 4, timestamp 80, EOS", 7, OUTPUT, 4, 2, 80, buffer(picture, 80, 2))
+    log.command("queue input 1 while draining, EOS given", queue(7, INPUT, 1, 14), error(0x0300))
+    log.command("create input 2: EOS stays given", resource(7, INPUT, 2), ok)
+    log.command("set the output: EOS stays given", set_params(7, OUTPUT, NV12, 640, 480), ok)
+    log.command("destroy all inputs: EOS stays given", destroy_all(7, INPUT), ok)
+    log.drained("drained", 7, drained(draining))
     return log
 
 

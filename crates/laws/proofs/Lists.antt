@@ -159,6 +159,14 @@ module _ {A : Type 0} (p : A → Bool) where
   length-split [] = refl
   length-split (x ∷ l) = decide (p x) (λ e. simp e (omega (arith, length-split l))) (λ e. simp e (omega (arith, length-split l)))
 
+-- a list of which as many are kept is kept whole
+pub keep-whole : {A : Type 0} (p : A → Bool) (l : List A) → length l ≤ length (keep p l) → keep p l ≡ l
+keep-whole p [] h = refl
+keep-whole p (x ∷ l) h =
+    decide (p x)
+    (λ e. simp e (ap (λ r. x ∷ r) (keep-whole p l (omega (arith, simp e at h)))))
+    (λ e. absurd (omega (arith, length-split p l, simp e at h)))
+
 -- the sum of two lists
 pub total-append : (l m : List ℕ) → total (l ++ m) ≡ total l + total m
 total-append [] m = omega arith

@@ -49,9 +49,9 @@ module _ (s : Step) (o : DeviceReply) (read : answersIn (bytesOf (o .answers)) �
 
 -- The device and the ledger agree
 
-record Agree (d : Device) (l : Ledger) : Type 0 where
-  well : wellFormed d ≡ true
-  sameView : (n : ℕ) → viewAt n l ≡ holding (recordOf n (d .places))
+pub record Agree (d : Device) (l : Ledger) : Type 0 where
+  pub well : wellFormed d ≡ true
+  pub sameView : (n : ℕ) → viewAt n l ≡ holding (recordOf n (d .places))
   knows : allOf (awaits known) l ≡ true
 
 pub sane-record : (n : ℕ) (d : Device) → wellFormed d ≡ true → Sane (recordOf n (d .places))
@@ -166,6 +166,9 @@ event-read k d l s g m =
     of none e h = read-refused k d l s g m 4 refl (h ∙ ap (performOf d (s .act)) e)
     of (some n) e h = read-own k d l s g m (h ∙ ap (performOf d (s .act)) (e ∙ ap some (step-stream-is (s .act) n e)))
 
+pub agree-step : (k : ℕ) (d : Device) (l : Ledger) (s : Step) → Agree d l → goodAct (s .act) ≡ true → Agree (stepOn d s .device) (ledgerAfter (notedOf k (eventOf s (stepOn d s))) l)
+agree-step k d l s g m = event-read k d l s g m .agree
+
 -- and so over a whole list
 
 abbrev good : Step → List Step → Type 0
@@ -181,7 +184,7 @@ agree-end : (k : ℕ) (d : Device) (l : Ledger) (ss : List Step) → Agree d l �
 agree-end k d l [] g m = g
 agree-end k d l (s ∷ ss) g m =
     agree-end (suc k) (stepOn d s .device) (ledgerAfter (notedOf k (eventOf s (stepOn d s))) l) ss
-    (event-read k d l s g (and-left (goodAct (s .act)) (goodSteps ss) m) .agree) (and-right (goodAct (s .act)) (goodSteps ss) m)
+    (agree-step k d l s g (and-left (goodAct (s .act)) (goodSteps ss) m)) (and-right (goodAct (s .act)) (goodSteps ss) m)
 
 -- the bytes of a step are its answers
 
@@ -198,7 +201,7 @@ all-whole d (s ∷ ss) h m =
       all-whole (stepOn d s .device) ss (stays-well-formed d s h good) (and-right (goodAct (s .act)) (goodSteps ss) m),
     )
 
-agree-fresh : Agree fresh []
+pub agree-fresh : Agree fresh []
 unfolding fresh viewOf holding
 agree-fresh = record { well = well-fresh; sameView = λ n. refl; knows = refl }
 
@@ -345,7 +348,7 @@ all-know k d l [] g m = tt
 all-know k d l (s ∷ ss) g m = (
   g .knows,
   all-know (suc k) (stepOn d s .device) (ledgerAfter (notedOf k (eventOf s (stepOn d s))) l) ss
-      (event-read k d l s g (and-left (goodAct (s .act)) (goodSteps ss) m) .agree) (and-right (goodAct (s .act)) (goodSteps ss) m),
+      (agree-step k d l s g (and-left (goodAct (s .act)) (goodSteps ss) m)) (and-right (goodAct (s .act)) (goodSteps ss) m),
 )
 
 balance : (j k : ℕ) (l : Ledger) (es : List Event) → AsExpected k l es → Knows k l es

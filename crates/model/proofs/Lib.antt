@@ -18,3 +18,4 @@ pub mod Refusals
 pub mod Unchanged
 pub mod SpentForGood
 pub mod SpentExactly
+pub mod LastPicture

@@ -1,4 +1,4 @@
--- How a case is checked on the definitions, the ten cases of document 01 that are to be, three on spent numbers, and some lines on what no run shows.
+-- How a case is checked on the definitions, the ten cases of document 01 that are to be, three on spent numbers, four on EOS, and some lines on what no run shows.
 use Prim.Native.Nat.{ℕ}
 use mathlib.Core.Bool.{Bool, true, false, _&&_}
 use mathlib.Core.Option.{some}
@@ -164,6 +164,23 @@ spentCases =
     ∷ case [] (askCreateOf 1023 gives (1 ∷ 8 ∷ 0x0200 ∷ 1023 ∷ []) ∷ askCreateOf 1024 gives (1 ∷ 8 ∷ 0x0302 ∷ 1024 ∷ []) ∷ [])
     ∷ []
 
+-- EOS and a drain: an output that is there wants it, without outputs nothing does; it is given once, and stays given over a clear of the outputs; a drain
+-- after a clear of the inputs starts without
+abbrev pub eosCases : List Case
+eosCases =
+    case (askCreate ∷ askResource 0x101 9 ∷ askDrain 4 ∷ []) (drained 7 refused 5 ∷ [])
+    ∷ case (askCreate ∷ askResource 0x100 9 ∷ askDrain 4 ∷ []) (drained 7 gives successTo 4 ∷ [])
+    ∷ case (bothDraining ++ askQueue 5 0x101 9 77 1 ∷ [])
+    (finish 7 0x101 9 3 88 gives bufferEnds 5 88 3
+    ∷ askQueue 6 0x101 9 78 1 gives []
+    ∷ finish 7 0x101 9 2 89 refused 6
+    ∷ askClear 8 0x101 gives (bufferEnds 6 78 1 ++ successTo 8)
+    ∷ drained 7 gives successTo 4
+    ∷ [])
+    ∷ case (bothDraining ++ askQueue 5 0x101 9 77 1 ∷ finish 7 0x101 9 2 88 ∷ [])
+    (askClear 6 0x100 gives (successTo 4 ++ successTo 6) ∷ askDrain 8 gives [] ∷ drained 7 refused 5 ∷ [])
+    ∷ []
+
 -- What no run shows: only condition 3 asks whose step it is, what is accepted or 'out of memory', what is pending, and which lists there
 -- are; and no words of a table stand for a queue of fifteen slots or for a number above 32 bits
 
@@ -190,6 +207,7 @@ withOutputs s = putBack 7 (some (withQueue output (withSlots s newQueue) (newStr
 pub record MoreCases : Type 0 where
   -- though runs show them too: a wrong rule is then refused by a case
   pub spent-numbers : allOf passes spentCases ≡ true
+  pub last-outputs : allOf passes eosCases ≡ true
   -- a command of an unknown type, and a report that is refused, belong to the number in them; a command of 7 bytes belongs to none
   pub owners : map (belongs 7) (
       eventAfter [] (ask 5 (0x0100 ∷ 7 ∷ []))

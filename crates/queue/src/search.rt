@@ -71,12 +71,12 @@ pub fn no_resource(q: &[u32]) -> bool
     requires { ⌜ length (now q) ≡ 84 ⌝ }
     ensures { λ r. ⌜ ((Q : Queue) → now (q .entry) ≡ queueWords Q → r ≡ noResource (Q .slots)) ⌝ }
 {
-    let mut k = 0;
-    while k < SLOTS {
-        if !slot_free(q, k) {
+    let mut i = 0;
+    while i < SLOTS {
+        if !slot_free(q, i) {
             return false;
         }
-        k += 1;
+        i += 1;
     }
     true
 }

@@ -29,6 +29,7 @@ use Rattle.model.proofs.Tables.{valid-device, valid-used, on-tables, fresh-shor
 use Rattle.model.proofs.Refusals.{only-listed, no-table-refusal}
 use Rattle.model.proofs.SpentForGood.{spent-for-good}
 use Rattle.model.proofs.SpentExactly.{spent-exactly}
+use Rattle.model.proofs.LastPicture.{no-drain-without-last}
 use Rattle.model.proofs.Unchanged.{refusal-changes-nothing, error-changes-nothing, keeps-rest, stays-valid, writes-at-most}
 use Rattle.queue.specs.Words.{slotWords, queueWords}
 use Rattle.table.specs.Spent.{wordNumbers, spentSize, bitsWord, spentWords}
@@ -222,4 +223,5 @@ table-promises =
       writesAtMost = writes-at-most layout;
       spentExactly = spent-exactly layout meets-laws;
       spentForGood = spent-for-good layout meets-laws;
+      noDrainWithoutLast = no-drain-without-last layout meets-laws;
     }

@@ -11,7 +11,9 @@ use std::time::Instant;
 use independent::coverage::{name, Coverage, TABLE_NOT_VALID, TABLE_SHORT};
 use independent::device::*;
 use independent::frames;
-use independent::layout::{self, Broken, BLOCK, INPUT_AT, OUTPUT_AT, SPENT_AT, UNUSED_AT, WORDS};
+use independent::layout::{
+    self, Broken, BLOCK, DRAIN_AT, INPUT_AT, OUTPUT_AT, SPENT_AT, UNUSED_AT, WORDS,
+};
 use independent::on_words::{Core, OnWords, Outcome};
 use independent::random::{Generator, Rng, ODD_WORDS};
 use independent::slips;
@@ -249,7 +251,7 @@ impl<C: Core> Run<'_, C> {
         let before = device.clone();
         let done = self.compare(table, Some(device), act, &mut room)?;
         self.coverage.count(act, &done, edge);
-        self.coverage.count_number(&before, act, &done);
+        self.coverage.count_before(&before, act, &done);
         self.coverage.count_depth(device, &done.written, table.len());
         Ok(())
     }
@@ -417,9 +419,15 @@ struct Probes<'p, C> {
     met: BTreeSet<(Way, u32)>,
 }
 
-/// A way to break a rule, where it is to be broken in each of several ways.
+/// A way to break a rule, where it is to be broken in each of several ways, or to keep to it.
 #[derive(Clone, Copy, Debug, PartialEq, Eq, PartialOrd, Ord)]
 enum Way {
+    /// The drain's word of a live stream has this value.
+    DrainWord(u32),
+    /// The same, and the table is good.
+    GoodDrainWord(u32),
+    /// A ticket stands with no drain owed, since this word of its block was changed.
+    DrainTicket(usize),
     /// Word 0 of a queue, which stands here in its block, has this value.
     QueueHead(usize, u32),
     /// This word without use is not zero.
@@ -436,6 +444,8 @@ impl Way {
     /// The way in which setting a word to a value breaks a rule, if that is to be told apart.
     fn of(rule: Broken, at: usize, value: u32) -> Option<Way> {
         match rule {
+            Broken::Drain => Some(Way::DrainWord(value)),
+            Broken::DrainTicket => Some(Way::DrainTicket(at % BLOCK)),
             Broken::QueueHead => Some(Way::QueueHead(at % BLOCK, value)),
             Broken::Unused => Some(Way::Unused(at)),
             Broken::NotSpent if at >= SPENT_AT => Some(Way::BitDropped),
@@ -445,13 +455,23 @@ impl Way {
         }
     }
 
+    /// The way in which setting a word to a value leaves a table good, if that is to be told apart.
+    fn good(at: usize, value: u32) -> Option<Way> {
+        (at < SPENT_AT && at % BLOCK == DRAIN_AT).then_some(Way::GoodDrainWord(value))
+    }
+
     /// The ways to be met by each kind of step.
     fn wanted() -> impl Iterator<Item = Way> {
+        let good = [0, 1, 2].map(Way::GoodDrainWord);
+        let bad = [3, 4, 0x8000_0002, u32::MAX].map(Way::DrainWord);
+        let tickets = [DRAIN_AT, DRAIN_AT + 1].map(Way::DrainTicket);
+        let drains = good.into_iter().chain(bad).chain(tickets);
         let heads = [INPUT_AT, OUTPUT_AT]
             .into_iter()
             .flat_map(|at| [1, 2, u32::MAX].map(|value| Way::QueueHead(at, value)));
         let unused = (UNUSED_AT..WORDS).map(Way::Unused);
-        heads.chain(unused).chain([Way::BitDropped, Way::LowNumber, Way::HighNumber])
+        let numbers = [Way::BitDropped, Way::LowNumber, Way::HighNumber];
+        drains.chain(heads).chain(unused).chain(numbers)
     }
 }
 
@@ -478,13 +498,17 @@ impl<C: Core> Probes<'_, C> {
                 table[at] = value;
                 // Over the places, each value of a block's word meets each kind of step.
                 let kind = KINDS[(turn + at / BLOCK) % 3];
-                match self.lend(&table, at, kind)? {
-                    Ok(_) => refused[at] = false,
+                let way = match self.lend(&table, at, kind)? {
+                    Ok(_) => {
+                        refused[at] = false;
+                        Way::good(at, value)
+                    }
                     Err(rule) => {
                         self.rules.insert(rule);
-                        self.met.extend(Way::of(rule, at, value).map(|way| (way, kind)));
+                        Way::of(rule, at, value)
                     }
-                }
+                };
+                self.met.extend(way.map(|way| (way, kind)));
             }
             table[at] = kept;
         }
@@ -520,7 +544,10 @@ impl<C: Core> Probes<'_, C> {
             step: self.count,
             step_of_run: self.count,
             act: format!("word {at} set to {:#x}, {act:x?}", table[at]),
-            what: format!("{outcome:?}, expected {expected:?} ({read:?}), unchanged {unchanged}"),
+            what: format!(
+                "{outcome:?}, expected {expected:?} ({:?}), unchanged {unchanged}",
+                read.map(|_| "valid")
+            ),
         })
     }
 
@@ -561,7 +588,8 @@ fn tables_to_spoil(seed: u64) -> Vec<Device> {
     for (number, place) in numbers().rev().zip(&mut full.places) {
         full.spent.add(number);
         let mut stream = Stream::new(number, 0x1003);
-        stream.drain = Some(9);
+        // With EOS given and without, and with tickets that let the drain's word be 0 and not.
+        stream.drain = Some(Drain { ticket: number % 4 / 2, eos_given: number % 2 == 1 });
         for queue in [&mut stream.input, &mut stream.output] {
             for (number, slot) in queue.resources.iter_mut().enumerate() {
                 let state = State::Queued { ticket: 8, timestamp: u64::MAX };

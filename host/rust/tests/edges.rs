@@ -79,6 +79,38 @@ impl<C: Core + Default> Host<C> {
         assert_eq!(self.command(ticket, &frame(STREAM_DRAIN, 7, 8)), Ok(vec![]));
     }
 
+    /// Queues an output of stream 7 and finishes it with these flags, which is to be taken.
+    fn finish_output(&mut self, resource: u32, flags: u32) {
+        self.queue(20, OUTPUT, resource, 5);
+        let answer = Ok(vec![buffer(20, 7, 6, flags)]);
+        assert_eq!(self.finish(7, OUTPUT, resource, flags, 6), answer);
+    }
+
+    /// A finish of stream 7 is refused so, and changes nothing.
+    fn not_finished(&mut self, queue_type: u32, resource: u32, flags: u32, refusal: u32) {
+        let before = self.table.clone();
+        assert_eq!(self.finish(7, queue_type, resource, flags, 6), Err(refusal));
+        assert_eq!(self.table, before);
+    }
+
+    /// A drained report of stream 7 is refused, and changes nothing.
+    fn not_drained(&mut self) {
+        let before = self.table.clone();
+        assert_eq!(self.drained(7), Err(5));
+        assert_eq!(self.table, before);
+    }
+
+    /// Frees all resources of a queue of stream 7, none of which is Queued.
+    fn destroy_all(&mut self, queue_type: u32) {
+        let free = on_queue(RESOURCE_DESTROY_ALL, 7, queue_type);
+        assert_eq!(self.command(1, &free), ok(1, 7));
+    }
+
+    /// The drain's word and its ticket, of stream 7 in the first place.
+    fn drain_words(&self) -> [u32; 2] {
+        [self.table[3], self.table[4]]
+    }
+
     /// Creates streams, which is to succeed.
     fn create(&mut self, numbers: impl IntoIterator<Item = u32>) {
         for number in numbers {
@@ -516,8 +548,327 @@ cases! {
         host.queue(14, OUTPUT, 1, 0);
         assert_eq!(host.drained(7), Err(5));
         assert_eq!(host.finish(7, INPUT, 1, 0, 1), Ok(vec![buffer(10, 7, 0, 0)]));
+        assert_eq!(host.drained(7), Err(5));
+        assert_eq!(host.finish(7, OUTPUT, 1, 2, 1), Ok(vec![buffer(14, 7, 1, 2)]));
         assert_eq!(host.drained(7), ok(11, 7));
         assert_eq!(host.drained(7), Err(5));
+    }
+
+    /// Without EOS a drained report is refused while there is an output, in each of its states, also
+    /// where the drain was accepted with none; once there is none, it is taken.
+    fn drained_without_eos(host: with_stream) {
+        host.drain(10);
+        assert_eq!(host.drain_words(), [1, 10]);
+        assert_eq!(host.drained(7), ok(10, 7));
+        assert_eq!(host.drain_words(), [0, 0]);
+        host.drain(11);
+        host.resource(OUTPUT, 1);
+        host.not_drained();
+        host.queue(12, OUTPUT, 1, 5);
+        host.not_drained();
+        assert_eq!(host.finish(7, OUTPUT, 1, 0, 6), Ok(vec![buffer(12, 7, 6, 0)]));
+        host.not_drained();
+        host.destroy_all(OUTPUT);
+        assert_eq!(host.drain_words(), [1, 11]);
+        assert_eq!(host.drained(7), ok(11, 7));
+        host.not_drained();
+    }
+
+    /// An output in any one place is enough, and outputs there when the drain was accepted are not.
+    fn drained_without_eos_by_place_of_the_output(host: with_stream) {
+        host.resource(OUTPUT, 3);
+        host.drain(10);
+        host.destroy_all(OUTPUT);
+        for slot in 0..16 {
+            let at = OUTPUT_AT + 4 + 5 * slot;
+            for state in 1..=3 {
+                host.table[at] = state;
+                host.table[at + 1] = 3;
+                host.not_drained();
+            }
+            host.table[at..at + 2].fill(0);
+        }
+        assert_eq!(host.drained(7), ok(10, 7));
+    }
+
+    /// Inputs are no outputs: unless one is Queued, they do not stop a drained report.
+    fn drained_with_inputs_alone(host: with_stream) {
+        host.resource(INPUT, 1);
+        host.drain(10);
+        assert_eq!(host.drained(7), ok(10, 7));
+        host.queue(11, INPUT, 1, 5);
+        host.drain(12);
+        host.not_drained();
+        assert_eq!(host.finish(7, INPUT, 1, 1, 0), Ok(vec![buffer(11, 7, 5, 1)]));
+        assert_eq!(host.drain_words(), [1, 12]);
+        assert_eq!(host.drained(7), ok(12, 7));
+        // And outputs are enough without an input.
+        host.destroy_all(INPUT);
+        host.resource(OUTPUT, 1);
+        host.drain(13);
+        host.not_drained();
+    }
+
+    /// EOS, with ERR or without, lets a drained report pass; no other finish does.
+    fn flags_that_give_eos(host: with_stream) {
+        host.resource(INPUT, 1);
+        host.resource(OUTPUT, 1);
+        for flags in [2, 3] {
+            host.queue(9, INPUT, 1, 5);
+            host.drain(10);
+            for plain in [0, 1] {
+                host.finish_output(1, plain);
+                assert_eq!(host.drain_words(), [1, 10]);
+            }
+            assert_eq!(host.finish(7, INPUT, 1, 0, 6), Ok(vec![buffer(9, 7, 5, 0)]));
+            host.not_drained();
+            host.finish_output(1, flags);
+            assert_eq!(host.drain_words(), [2, 10]);
+            assert_eq!(host.drained(7), ok(10, 7));
+            assert_eq!(host.drain_words(), [0, 0]);
+            host.not_drained();
+        }
+    }
+
+    /// After EOS the outputs do not matter: in each state, and with none left, a drained report is
+    /// taken and leaves them alone.
+    fn drained_after_eos(host: with_stream) {
+        let queued = [2, 1, 30, 5, 0];
+        for (state, output) in
+            [(0, [0; 5]), (1, [1, 1, 0, 0, 0]), (2, queued), (3, [3, 1, 0, 0, 0])]
+        {
+            host.resource(OUTPUT, 1);
+            host.drain(10);
+            host.finish_output(1, 2);
+            match state {
+                0 => host.destroy_all(OUTPUT),
+                1 => {
+                    host.destroy_all(OUTPUT);
+                    host.resource(OUTPUT, 1);
+                }
+                2 => host.queue(30, OUTPUT, 1, 5),
+                _ => {}
+            }
+            assert_eq!(host.drain_words(), [2, 10]);
+            assert_eq!(host.drained(7), ok(10, 7));
+            assert_eq!(host.drain_words(), [0, 0]);
+            assert_eq!(host.table[OUTPUT_AT + 4..][..5], output);
+            assert!(host.command(1, &on_queue(QUEUE_CLEAR, 7, OUTPUT)).is_ok());
+            host.destroy_all(OUTPUT);
+        }
+    }
+
+    /// EOS may come while an input is still Queued; the drained report waits for that.
+    fn eos_before_the_last_input(host: with_stream) {
+        host.resource(INPUT, 1);
+        host.resource(OUTPUT, 1);
+        host.queue(9, INPUT, 1, 5);
+        host.drain(10);
+        host.finish_output(1, 2);
+        host.not_drained();
+        assert_eq!(host.drain_words(), [2, 10]);
+        assert_eq!(host.finish(7, INPUT, 1, 0, 6), Ok(vec![buffer(9, 7, 5, 0)]));
+        assert_eq!(host.drain_words(), [2, 10]);
+        assert_eq!(host.drained(7), ok(10, 7));
+    }
+
+    /// A second EOS for a drain is refused with 6, with ERR or without, after the tests that give 5;
+    /// the buffer can then still be finished without it.
+    fn one_eos_per_drain(host: with_stream) {
+        host.resource(INPUT, 1);
+        host.queue(9, INPUT, 1, 5);
+        for output in [1, 2, 3] {
+            host.resource(OUTPUT, output);
+        }
+        for output in [1, 2] {
+            host.queue(output, OUTPUT, output, 5);
+        }
+        for first in [2, 3] {
+            host.drain(10);
+            assert_eq!(host.finish(7, OUTPUT, 1, first, 6), Ok(vec![buffer(1, 7, 6, first)]));
+            for second in [2, 3] {
+                host.not_finished(OUTPUT, 2, second, 6);
+                // Created, Dequeued and absent.
+                for other in [3, 1, 4] {
+                    host.not_finished(OUTPUT, other, second, 5);
+                }
+                host.not_finished(INPUT, 2, second, 5);
+                host.not_finished(0x102, 2, second, 5);
+            }
+            for other in [6, 7, 0x8000_0002] {
+                for output in [1, 2, 4] {
+                    host.not_finished(OUTPUT, output, other, 6);
+                }
+            }
+            assert_eq!(host.drain_words(), [2, 10]);
+            assert_eq!(host.finish(7, OUTPUT, 2, 1, 6), Ok(vec![buffer(2, 7, 6, 1)]));
+            assert_eq!(host.drain_words(), [2, 10]);
+            // The next drain has an EOS of its own.
+            let ended = vec![(10, vec![0x0200, 7]), (11, vec![0x0200, 7])];
+            let stopped = if first == 2 { vec![buffer(9, 7, 5, 1)] } else { vec![] };
+            let answers = [stopped, ended].concat();
+            assert_eq!(host.command(11, &on_queue(QUEUE_CLEAR, 7, INPUT)), Ok(answers));
+            for output in [1, 2] {
+                host.queue(output, OUTPUT, output, 5);
+            }
+        }
+    }
+
+    /// An EOS that is refused gives none: of an input, of a buffer that is not Queued, with other
+    /// flags, with no drain owed, or with too little room.
+    fn refused_eos(host: with_stream) {
+        host.resource(INPUT, 1);
+        host.resource(OUTPUT, 1);
+        host.resource(OUTPUT, 2);
+        host.queue(9, OUTPUT, 1, 5);
+        for flags in [2, 3] {
+            host.not_finished(OUTPUT, 1, flags, 6);
+            host.not_finished(OUTPUT, 2, flags, 5);
+        }
+        host.queue(8, INPUT, 1, 5);
+        host.drain(10);
+        assert_eq!(host.drain_words(), [1, 10]);
+        for flags in [2, 3] {
+            host.not_finished(INPUT, 1, flags, 6);
+            host.not_finished(INPUT, 2, flags, 5);
+            host.not_finished(OUTPUT, 2, flags, 5);
+            host.not_finished(OUTPUT, 1, flags + 4, 6);
+            let report = Report { stream: 7, queue_type: OUTPUT, resource: 1, flags, timestamp: 0 };
+            let outcome = host.core.finish(&mut host.table, &report, &mut [0; ROOM - 1]);
+            assert_eq!(outcome, Outcome { refusal: 3, written: 0 });
+        }
+        assert_eq!(host.drain_words(), [1, 10]);
+        assert_eq!(host.finish(7, INPUT, 1, 0, 6), Ok(vec![buffer(8, 7, 5, 0)]));
+        host.not_drained();
+        assert_eq!(host.finish(7, OUTPUT, 1, 2, 6), Ok(vec![buffer(9, 7, 6, 2)]));
+        assert_eq!(host.drained(7), ok(10, 7));
+    }
+
+    /// The mark is kept by all that does not answer the drain: a clear of the outputs, one more
+    /// drain, and what is done to resources and parameters.
+    fn what_keeps_the_mark(host: with_stream) {
+        host.resource(INPUT, 1);
+        host.resource(OUTPUT, 1);
+        host.drain(10);
+        host.finish_output(1, 2);
+        host.queue(11, OUTPUT, 1, 5);
+        let stopped = vec![buffer(11, 7, 5, 1), (3, vec![0x0200, 7])];
+        for (command, answer) in [
+            (on_queue(QUEUE_CLEAR, 7, OUTPUT), Ok(stopped)),
+            (on_queue(QUEUE_CLEAR, 7, OUTPUT), ok(3, 7)),
+            (frame(STREAM_DRAIN, 7, 8), error(3, 0x0300, 7)),
+            (resource_queue(7, INPUT, 1, 0, 0), error(3, 0x0300, 7)),
+            (resource_create(7, INPUT, 2, &[1], &[(0, 1)]), ok(3, 7)),
+            (resource_create(7, OUTPUT, 2, &[1], &[(0, 1)]), ok(3, 7)),
+            (set_params(7, INPUT, H264, 64, 64, 0), ok(3, 7)),
+            (set_params(7, OUTPUT, 3, 64, 64, 0), ok(3, 7)),
+            (on_queue(RESOURCE_DESTROY_ALL, 7, INPUT), ok(3, 7)),
+            (on_queue(RESOURCE_DESTROY_ALL, 7, OUTPUT), ok(3, 7)),
+            (resource_create(7, OUTPUT, 1, &[1], &[(0, 1)]), ok(3, 7)),
+            (frame(QUERY_CONTROL, 7, 16), error(3, 0x0305, 7)),
+            (stream_create(7, H264, b""), error(3, 0x0302, 7)),
+        ] {
+            assert_eq!(host.command(3, &command), answer);
+            assert_eq!(host.drain_words(), [2, 10]);
+        }
+        host.finish_output(1, 0);
+        host.queue(12, OUTPUT, 1, 5);
+        host.not_finished(OUTPUT, 1, 2, 6);
+        assert_eq!(host.drain_words(), [2, 10]);
+        assert_eq!(host.drained(7), ok(10, 7));
+    }
+
+    /// Each answer to a drain drops the mark: a drained report, a clear of the inputs and the
+    /// destruction. The next drain needs an EOS of its own.
+    fn what_drops_the_mark(host: with_stream) {
+        let plain = vec![0x0200, 7];
+        host.resource(OUTPUT, 1);
+        host.drain(10);
+        host.finish_output(1, 2);
+        assert_eq!(host.drained(7), ok(10, 7));
+        assert_eq!(host.drain_words(), [0, 0]);
+        for ticket in [11, 12] {
+            host.drain(ticket);
+            assert_eq!(host.drain_words(), [1, ticket]);
+            host.not_drained();
+            host.finish_output(1, 3);
+            assert_eq!(host.drain_words(), [2, ticket]);
+            let cleared = Ok(vec![(ticket, plain.clone()), (3, plain.clone())]);
+            assert_eq!(host.command(3, &on_queue(QUEUE_CLEAR, 7, INPUT)), cleared);
+            assert_eq!(host.drain_words(), [0, 0]);
+            host.queue(4, OUTPUT, 1, 5);
+            host.not_finished(OUTPUT, 1, 2, 6);
+            assert_eq!(host.finish(7, OUTPUT, 1, 0, 6), Ok(vec![buffer(4, 7, 6, 0)]));
+        }
+        host.drain(13);
+        host.not_drained();
+        host.finish_output(1, 2);
+        let destroyed = Ok(vec![(13, plain.clone()), (3, plain)]);
+        assert_eq!(host.command(3, &frame(STREAM_DESTROY, 7, 8)), destroyed);
+        assert!(host.table[..4096].iter().all(|&word| word == 0));
+        // Another stream in its place begins without.
+        host.create([8]);
+        assert_eq!(host.command(3, &resource_create(8, OUTPUT, 1, &[1], &[(0, 1)])), ok(3, 8));
+        assert_eq!(host.command(14, &frame(STREAM_DRAIN, 8, 8)), Ok(vec![]));
+        assert_eq!(host.drain_words(), [1, 14]);
+        assert_eq!(host.drained(8), Err(5));
+    }
+
+    /// EOS and outputs of one stream are nothing to another.
+    fn eos_of_another_stream(host: with_stream) {
+        host.create([8]);
+        for queue_type in [INPUT, OUTPUT] {
+            let import = resource_create(8, queue_type, 1, &[1], &[(0, 1)]);
+            assert_eq!(host.command(3, &import), ok(3, 8));
+        }
+        assert_eq!(host.command(9, &resource_queue(8, OUTPUT, 1, 5, 0)), Ok(vec![]));
+        assert_eq!(host.command(11, &frame(STREAM_DRAIN, 8, 8)), Ok(vec![]));
+        // Stream 7 has no output, stream 8 has one.
+        host.drain(10);
+        assert_eq!(host.drained(8), Err(5));
+        assert_eq!(host.drained(7), ok(10, 7));
+        // Each has an EOS of its own.
+        host.resource(OUTPUT, 1);
+        host.drain(12);
+        host.finish_output(1, 2);
+        assert_eq!([host.table[3], host.table[BLOCK + 3]], [2, 1]);
+        assert_eq!(host.drained(8), Err(5));
+        assert_eq!(host.finish(8, OUTPUT, 1, 2, 6), Ok(vec![buffer(9, 8, 6, 2)]));
+        assert_eq!([host.table[3], host.table[BLOCK + 3]], [2, 2]);
+        assert_eq!(host.drained(7), ok(12, 7));
+        assert_eq!([host.table[3], host.table[BLOCK + 3]], [0, 2]);
+        assert_eq!(host.drained(8), ok(11, 8));
+    }
+
+    /// The drain's word is 0, 1 or 2; its ticket is 0 where the word is 0, and any where it is not.
+    fn drain_words_of_a_table(host: with_stream) {
+        host.resource(OUTPUT, 1);
+        for ticket in [0, 1, u32::MAX] {
+            host.table[4] = ticket;
+            for word in [3, 4, 5, 0x0001_0002, 0x8000_0000, 0x8000_0002, u32::MAX] {
+                host.table[3] = word;
+                host.invalid();
+            }
+            // Owed without EOS, and with it.
+            host.table[3] = 1;
+            host.not_drained();
+            host.table[3] = 2;
+            assert_eq!(host.drained(7), ok(ticket, 7));
+            assert_eq!(host.drain_words(), [0, 0]);
+            // Not owed.
+            host.table[4] = ticket;
+            if ticket == 0 {
+                host.valid();
+            } else {
+                host.invalid();
+            }
+        }
+        // Nor is there a drain in a vacant place.
+        host.table[4] = 0;
+        for word in [1, 2] {
+            host.table[BLOCK + 3] = word;
+            host.invalid();
+        }
     }
 
     fn refused_queueing_keeps_the_first_ticket(host: with_stream) {
@@ -534,16 +885,16 @@ cases! {
         host.resource(INPUT, 1);
         host.resource(OUTPUT, 1);
         let command = |frame| Act::Command { ticket: 3, frame };
-        let report = |queue_type, timestamp| {
-            Act::Finish(Report { stream: 7, queue_type, resource: 1, flags: 0, timestamp })
+        let report = |queue_type, flags| {
+            Act::Finish(Report { stream: 7, queue_type, resource: 1, flags, timestamp: 8 })
         };
         let input = [0x100, H264, 16, 16, 1, 16, 0, 0, 16, 16, 0, 1, 262_144, 0];
         for (act, answer) in [
             (command(resource_queue(7, INPUT, 1, 5, 0)), Ok(vec![])),
             (command(resource_queue(7, OUTPUT, 1, 6, 0)), Ok(vec![])),
             (command(frame(STREAM_DRAIN, 7, 8)), Ok(vec![])),
-            (report(INPUT, 8), Ok(vec![buffer(3, 7, 5, 0)])),
-            (report(OUTPUT, 8), Ok(vec![buffer(3, 7, 8, 0)])),
+            (report(INPUT, 0), Ok(vec![buffer(3, 7, 5, 0)])),
+            (report(OUTPUT, 2), Ok(vec![buffer(3, 7, 8, 2)])),
             (Act::Drained { stream: 7 }, ok(3, 7)),
             (command(on_queue(QUEUE_CLEAR, 7, INPUT)), ok(3, 7)),
             (command(on_queue(QUEUE_CLEAR, 7, OUTPUT)), ok(3, 7)),
@@ -805,6 +1156,7 @@ cases! {
         assert_eq!(host.command(14, &frame(STREAM_DRAIN, 8, 8)), Ok(vec![]));
         host.late();
         assert_eq!(host.finish(8, INPUT, 1, 0, 9), Ok(vec![buffer(13, 8, 6, 0)]));
+        assert_eq!(host.finish(8, OUTPUT, 1, 2, 9), Ok(vec![buffer(13, 8, 9, 2)]));
         host.late();
         assert_eq!(host.drained(8), ok(14, 8));
         host.late();

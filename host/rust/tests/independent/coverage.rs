@@ -5,6 +5,7 @@ use std::collections::BTreeMap;
 use std::fmt;
 
 use super::device::*;
+use super::drains::{Pasts, DRAIN_EDGES};
 use super::layout::{has_hole, WORDS};
 use super::random::BAD_TEXT;
 
@@ -20,10 +21,12 @@ pub const REASONS: &[(u32, Why, u32)] = &[
     (FINISH, "no buffer now Queued", 5),
     (FINISH, "EOS on an input", 6),
     (FINISH, "EOS with no drain owed", 6),
+    (FINISH, "a second EOS", 6),
     (DRAINED, "answer buffer under 1,056 bytes", 3),
     (DRAINED, "no such stream", 5),
     (DRAINED, "no drain owed", 5),
     (DRAINED, "an input still Queued", 5),
+    (DRAINED, "EOS not given, and outputs there", 5),
     (UNKNOWN, "unknown type or 0x0100", INVALID_OPERATION),
     (STREAM_CREATE, "wrong length", INVALID_PARAMETER),
     (STREAM_CREATE, "number spent", INVALID_STREAM),
@@ -167,6 +170,14 @@ const EDGES: &[(&str, u32)] = &[
     ("word 0 of an input queue above 1", 2),
     ("word 0 of an output queue 1", 2),
     ("word 0 of an output queue above 1", 2),
+    ("drain's word 0, its ticket 0", OK_NODATA),
+    ("drain's word 0, its ticket not 0", 2),
+    ("drain's word 1, its ticket 0", OK_NODATA),
+    ("drain's word 1, its ticket not 0", OK_NODATA),
+    ("drain's word 2, its ticket 0", OK_NODATA),
+    ("drain's word 2, its ticket not 0", OK_NODATA),
+    ("drain's word 3", 2),
+    ("drain's word above 3", 2),
     ("live number not spent", 2),
     ("live number 1,024", 2),
     ("live number 1,024 above a spent one", 2),
@@ -218,7 +229,7 @@ const OTHER_FAULTS: [(Why, u32); 7] = [
 const LENGTHS: [usize; 5] = [4095, 4096, 4159, 4160, 4161];
 
 /// Deep states, and whether these records or the step that led to them are such.
-fn depths(device: &Device, written: &[u8], words: usize) -> [(Why, bool); 16] {
+fn depths(device: &Device, written: &[u8], words: usize) -> [(Why, bool); 18] {
     let queues = || device.streams().flat_map(|stream| [&stream.input, &stream.output]);
     let queued = |stream: &Stream| stream.input.queued() + stream.output.queued();
     let on_both = |stream: &Stream| {
@@ -227,6 +238,8 @@ fn depths(device: &Device, written: &[u8], words: usize) -> [(Why, bool); 16] {
     };
     let live = device.streams().count();
     let drains = device.streams().filter(|stream| stream.drain.is_some()).count();
+    let marked = device.streams().filter(|stream| stream.eos_given()).count();
+    let marked_zero = Some(Drain { ticket: 0, eos_given: true });
     let hole = has_hole(&device.places) || queues().any(|queue: &Queue| has_hole(&queue.resources));
     // The last two answers are then the drain's and the command's own.
     let together = types(written).ends_with(&[OK_RESOURCE_QUEUE, OK_NODATA, OK_NODATA]);
@@ -238,6 +251,8 @@ fn depths(device: &Device, written: &[u8], words: usize) -> [(Why, bool); 16] {
         ("32 Queued in a stream", device.streams().any(|stream| queued(stream) == 2 * SLOTS)),
         ("100 Queued in a table", device.streams().map(queued).sum::<usize>() >= 100),
         ("4 drains owed", drains >= 4),
+        ("2 drains with EOS given and 2 without", marked >= 2 && drains >= marked + 2),
+        ("EOS given, the ticket 0", device.streams().any(|stream| stream.drain == marked_zero)),
         ("a free place before a used one", hole),
         ("one resource number on both queues", device.streams().any(on_both)),
         ("1,056 bytes written", written.len() == ROOM),
@@ -288,6 +303,8 @@ pub struct Coverage {
     refused: BTreeMap<u32, Why>,
     /// Of the table at hand: the numbers that were spent when it was last made fresh.
     forgotten: Spent,
+    /// Of the table at hand: what was of its drains.
+    pasts: Pasts,
 }
 
 impl Coverage {
@@ -316,6 +333,7 @@ impl Coverage {
     /// Another table is at hand, or the same one made fresh while these numbers were spent.
     pub fn start_table(&mut self, forgotten: Spent) {
         self.refused.clear();
+        self.pasts.clear();
         self.forgotten = forgotten;
     }
 
@@ -324,12 +342,23 @@ impl Coverage {
         self.lengths.add((kind, words));
     }
 
-    /// Counts a step by its stream number and what that was before the step.
-    pub fn count_number(&mut self, before: &Device, act: &Act, done: &Done) {
+    /// Counts a step by the records before it: by what its stream number was, and by the drain of
+    /// its stream.
+    pub fn count_before(&mut self, before: &Device, act: &Act, done: &Done) {
         let given = match done.refusal {
             0 => types(&done.written).pop().unwrap_or(0),
             refusal => refusal,
         };
+        self.count_number(before, act, done, given);
+        for name in self.pasts.names(before, act) {
+            self.edges.add((name, given));
+        }
+        if done.why.is_none() {
+            self.pasts.note(before, act);
+        }
+    }
+
+    fn count_number(&mut self, before: &Device, act: &Act, done: &Done, given: u32) {
         match (before.creation(act), act) {
             (Some((number, hits)), _) if done.refusal == 0 => {
                 self.count_creation(before, number, &hits, given);
@@ -443,7 +472,7 @@ impl Coverage {
     /// What of all this a log shows, with its counts.
     pub fn of_log(&self) -> Vec<(u64, String)> {
         let reasons = REASONS.iter().copied().filter(|reason| reason.2 != 3);
-        let edges = NUMBER_EDGES.iter().copied();
+        let edges = NUMBER_EDGES.iter().chain(DRAIN_EDGES).copied();
         [self.of_lists(reasons), self.of_edges(edges), self.of_numbers()].concat()
     }
 
@@ -527,7 +556,7 @@ fn wanted_reasons() -> impl Iterator<Item = (u32, Why, u32)> {
 
 fn wanted_edges() -> impl Iterator<Item = (Why, u32)> {
     let of_tags = BAD_TEXT.iter().map(|&(edge, _)| (edge, INVALID_PARAMETER));
-    EDGES.iter().chain(NUMBER_EDGES).copied().chain(of_tags)
+    EDGES.iter().chain(NUMBER_EDGES).chain(DRAIN_EDGES).copied().chain(of_tags)
 }
 
 /// The kinds of step that can come for a destroyed stream, and what is given. A finish may have bad

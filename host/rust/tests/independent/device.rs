@@ -87,6 +87,13 @@ pub struct Report {
     pub timestamp: u64,
 }
 
+impl Report {
+    /// Whether EOS is among the flags, with or without ERR.
+    pub fn has_eos(&self) -> bool {
+        self.flags & EOS != 0
+    }
+}
+
 /// The records, by place: "a record is compared by what it holds", but a new one takes the lowest
 /// free place.
 #[derive(Clone, Debug, Default, PartialEq, Eq)]
@@ -107,10 +114,19 @@ pub struct Spent(pub [u32; NUMBERS / 32]);
 pub struct Stream {
     pub number: u32,
     pub coded_format: u32,
-    /// The ticket of the owed drain.
-    pub drain: Option<u32>,
+    pub drain: Option<Drain>,
     pub input: Queue,
     pub output: Queue,
+    /// What a slip remembers of a stream. The device itself has no use for it.
+    pub kept: bool,
+}
+
+/// An owed drain. The mark is a part of it, since "with no drain owed it is off".
+#[derive(Clone, Copy, Debug, PartialEq, Eq)]
+pub struct Drain {
+    pub ticket: u32,
+    /// "Whether EOS was given since its drain was accepted."
+    pub eos_given: bool,
 }
 
 /// "... its parameters and its resources".
@@ -236,10 +252,13 @@ impl Device {
             answers.success(ticket, number);
             return Ok(());
         }
-        match self.asked_place(kind, number, right_length)? {
-            Some(place) => self.serve_live(place, kind, ticket, frame, answers),
-            None => Ok(()),
+        if let Some(place) = self.asked_place(kind, number, right_length)? {
+            self.serve_live(place, kind, ticket, frame, answers)?;
+            if let Some(stream) = self.places[place].as_mut() {
+                stream.lose_mark(self.slip, kind, word(frame, 8));
+            }
         }
+        Ok(())
     }
 
     /// The place of the live stream that a command is for, after the tests that come before the
@@ -427,35 +446,46 @@ impl Device {
         let taken = self.slips_late(Slip::LateReportTaken(FINISH), report.stream);
         let late_first = self.slips_late(Slip::LateBeforeFlags, report.stream);
         let fits = |stream: &Stream| stream.has_queued(report.queue_type, report.resource);
-        let mut stream = self.live(self.reported(FINISH, report.stream, fits));
+        let number = self.reported(FINISH, report.stream, fits);
+        let given = self.eos_given_before(number, report.flags);
+        let mut stream = self.live(number);
         let draining = stream.as_ref().is_some_and(|stream| stream.drain.is_some());
         let queued = stream.as_mut().is_some_and(|stream| stream.buffer(slip, report).is_some());
         let input = report.queue_type == INPUT;
-        let eos = report.flags & EOS != 0;
+        let eos = report.has_eos();
         let tests = [
             (room < ROOM, 3, "answer buffer under 1,056 bytes"),
             (report.flags > ERR + EOS && !late_first, 6, "flags outside ERR and EOS"),
             (!queued && !taken, 5, "no buffer now Queued"),
             (eos && input, 6, "EOS on an input"),
             (eos && !draining, 6, "EOS with no drain owed"),
+            (eos && given, 6, "a second EOS"),
         ];
         if let Err(hit) = first_hit(slip, FINISH, &tests) {
+            if let Some(stream) = stream {
+                stream.mark_though_refused(slip, report, hit);
+            }
             return Done::refused(hit.number, hit.why);
         }
         let mut answers = Answers::new(slip, FINISH);
         if let Some(stream) = stream {
             stream.finish(slip, report, &mut answers);
         }
+        if slip == Some(Slip::EosGivenToAll) && eos {
+            self.places.iter_mut().flatten().for_each(|stream| stream.give_eos(true));
+        }
         Done::taken(answers.bytes)
     }
 
     /// A drained report: refused with 5 for "no such stream, no drain owed, or an input still
-    /// Queued".
+    /// Queued", and "unless [EOS] was [given], or the stream has no output resources at all".
     pub fn drained(&mut self, number: u32, room: usize) -> Done {
         let slip = self.slip;
         let taken = self.slips_late(Slip::LateReportTaken(DRAINED), number);
-        let stream = self.live(self.reported(DRAINED, number, Stream::can_be_drained));
-        let draining = stream.as_ref().is_some_and(|stream| stream.drain.is_some());
+        let number = self.reported(DRAINED, number, Stream::can_be_drained);
+        let lacks_eos = self.lacks_eos(number);
+        let stream = self.live(number);
+        let seen = stream.as_ref().and_then(|stream| stream.seen_drain(slip, DRAINED));
         let input_queued = stream.as_ref().is_some_and(|stream| {
             stream.input.any_queued()
                 || slip == Some(Slip::DrainedWaitsForOutputs) && stream.output.any_queued()
@@ -463,10 +493,14 @@ impl Device {
         let tests = [
             (room < ROOM, 3, "answer buffer under 1,056 bytes"),
             (stream.is_none() && !taken, 5, "no such stream"),
-            (!draining && !taken, 5, "no drain owed"),
+            (seen.is_none() && !taken, 5, "no drain owed"),
             (input_queued, 5, "an input still Queued"),
+            (lacks_eos, 5, "EOS not given, and outputs there"),
         ];
         if let Err(hit) = first_hit(slip, DRAINED, &tests) {
+            if let Some(stream) = stream {
+                stream.drained_though_refused(slip, hit);
+            }
             return Done::refused(hit.number, hit.why);
         }
         let mut answers = Answers::new(slip, DRAINED);
@@ -478,6 +512,28 @@ impl Device {
             }
         }
         Done::taken(answers.bytes)
+    }
+
+    /// Whether EOS was given before to the drain that a finish with these flags is for.
+    fn eos_given_before(&self, number: u32, flags: u32) -> bool {
+        match self.slip {
+            Some(Slip::EosOfAnyStream(FINISH)) => self.streams().any(Stream::eos_given),
+            Some(Slip::SecondWithErrTaken) if flags == ERR + EOS => false,
+            _ => self.stream(number).is_some_and(Stream::eos_given),
+        }
+    }
+
+    /// Whether a drained report comes before the last picture of its stream.
+    fn lacks_eos(&self, number: u32) -> bool {
+        let lacks = self.stream(number).is_some_and(|stream| stream.lacks_eos(self.slip));
+        match self.slip {
+            Some(Slip::EosOfAnyStream(DRAINED)) => lacks && !self.streams().any(Stream::eos_given),
+            Some(Slip::OutputsOfAnyStream) => {
+                let given = self.stream(number).is_some_and(Stream::eos_given);
+                !given && self.streams().any(|stream| stream.output.has_any())
+            }
+            _ => lacks,
+        }
     }
 
     /// Whether this slip is made, on a step for a destroyed stream.
@@ -579,6 +635,7 @@ impl Stream {
             drain: None,
             input: queue(QueueType::Input),
             output: queue(QueueType::Output),
+            kept: false,
         }
     }
 
@@ -602,7 +659,74 @@ impl Stream {
 
     /// Whether a drained report would be taken.
     pub fn can_be_drained(&self) -> bool {
-        self.drain.is_some() && !self.input.any_queued()
+        self.drain.is_some() && !self.input.any_queued() && !self.lacks_eos(None)
+    }
+
+    /// Whether EOS was given to the owed drain.
+    pub fn eos_given(&self) -> bool {
+        self.drain.is_some_and(|drain| drain.eos_given)
+    }
+
+    /// Whether the last picture is still to come: EOS was not given, and there are outputs, in any
+    /// state, that it could be given on.
+    fn lacks_eos(&self, slip: Option<Slip>) -> bool {
+        let given = self.eos_given();
+        let outputs = self.output.has_any();
+        match slip {
+            Some(Slip::DrainedNeedsEos) => !given,
+            Some(Slip::DrainedNeedsNoOutputs) => outputs,
+            Some(Slip::DrainedLooksAtInputs) => !given && self.input.has_any(),
+            Some(Slip::DrainedLooksAtBoth) => !given && (outputs || self.input.has_any()),
+            Some(Slip::OutputsOverlooked(state)) => {
+                let mut others = self.output.resources.iter().flatten();
+                !given && others.any(|output| output.state.name() != state)
+            }
+            Some(Slip::OnlyQueuedOutputsCount) => !given && self.output.any_queued(),
+            Some(Slip::OutputsAskedAtDrain) => !given && self.kept,
+            _ => !given && outputs,
+        }
+    }
+
+    /// The owed drain as this kind of step sees it.
+    fn seen_drain(&self, slip: Option<Slip>, kind: u32) -> Option<Drain> {
+        let hidden = slip == Some(Slip::MarkedIsNoDrain(kind));
+        self.drain.filter(|drain| !hidden || !drain.eos_given)
+    }
+
+    /// Sets or drops the mark of the owed drain.
+    fn give_eos(&mut self, given: bool) {
+        if let Some(drain) = &mut self.drain {
+            drain.eos_given = given;
+        }
+    }
+
+    /// A step of this kind was taken, for this queue if it names one: only a slip loses the mark.
+    fn lose_mark(&mut self, slip: Option<Slip>, kind: u32, queue_type: u32) {
+        if slip == Some(Slip::MarkLostBy(kind, queue_type)) {
+            self.give_eos(false);
+        }
+    }
+
+    /// A finish was refused: only a slip changes the mark.
+    fn mark_though_refused(&mut self, slip: Option<Slip>, report: &Report, hit: Hit) {
+        match slip {
+            Some(Slip::RefusedEosGiven(why)) if why == hit.why && report.has_eos() => {
+                self.give_eos(true);
+                self.kept = self.drain.is_none();
+            }
+            Some(Slip::SecondDropsMark) if hit.why == "a second EOS" => self.give_eos(false),
+            _ => {}
+        }
+    }
+
+    /// A drained report was refused: only a slip changes the drain.
+    fn drained_though_refused(&mut self, slip: Option<Slip>, hit: Hit) {
+        match slip {
+            Some(Slip::RefusedDrainedGives(why)) if why == hit.why => self.give_eos(true),
+            Some(Slip::RefusedDrainedLoses(why)) if why == hit.why => self.give_eos(false),
+            Some(Slip::RefusedDrainedEnds(why)) if why == hit.why => self.drain = None,
+            _ => {}
+        }
     }
 
     /// The queue that a queue type in a frame names, if it is one.
@@ -637,13 +761,28 @@ impl Stream {
             let created = slip == Some(Slip::FinishedIsCreated);
             buffer.state = if created { State::Created } else { State::Dequeued };
         }
-        let ends_drain = match slip {
-            Some(Slip::LastInputEndsDrain) => input && !self.input.any_queued(),
-            Some(Slip::EosEndsDrain) => report.flags & EOS != 0,
-            _ => false,
-        };
-        if ends_drain {
-            self.stop_drain(answers);
+        self.lose_mark(slip, FINISH, report.queue_type);
+        if self.finish_gives_eos(slip, report) {
+            self.give_eos(true);
+        }
+        match slip {
+            Some(Slip::LastInputEndsDrain) if input && !self.input.any_queued() => {
+                self.stop_drain(answers)
+            }
+            Some(Slip::EosEndsDrain) if report.has_eos() => self.stop_drain(answers),
+            Some(Slip::EosForgetsDrain) if report.has_eos() => self.drain = None,
+            _ => {}
+        }
+    }
+
+    /// Whether a finish that is taken gives EOS, with or without ERR.
+    fn finish_gives_eos(&self, slip: Option<Slip>, report: &Report) -> bool {
+        let of = (report.queue_type, report.flags);
+        match slip {
+            Some(Slip::EosGivenBy(queue_type, flags)) if of == (queue_type, flags) => true,
+            Some(Slip::EosNotGivenBy(flags)) if report.flags == flags => false,
+            Some(Slip::LastOutputGivesEos) if of.0 == OUTPUT && !self.output.any_queued() => true,
+            _ => report.has_eos(),
         }
     }
 
@@ -660,21 +799,31 @@ impl Stream {
         self.stop_drain(answers);
     }
 
-    /// Answers an owed drain, which is then owed no more.
+    /// Answers an owed drain, which is then owed no more: "a drain's answer drops the mark".
     fn stop_drain(&mut self, answers: &mut Answers) {
-        if let Some(ticket) = self.drain.take() {
-            answers.drain(ticket, self.number);
-        }
+        let (slip, kind) = (answers.slip, answers.kind);
+        let Some(Drain { ticket, eos_given }) = self.seen_drain(slip, kind) else { return };
+        self.drain = None;
+        self.kept = eos_given && slip == Some(Slip::MarkOutlives(kind));
+        answers.drain(ticket, self.number);
     }
 
     /// 0x0103: "already draining (0x0300); else owed, answered by a drained report".
     fn drain(&mut self, slip: Option<Slip>, ticket: u32) -> Result<(), Hit> {
-        let draining = self.drain.is_some();
-        if slip == Some(Slip::RefusedDrainKeepsTicket) && draining {
-            self.drain = Some(ticket);
+        let draining = self.seen_drain(slip, STREAM_DRAIN).is_some();
+        match (slip, &mut self.drain) {
+            (Some(Slip::RefusedDrainKeepsTicket), Some(drain)) => drain.ticket = ticket,
+            (Some(Slip::RefusedDrainLosesMark), Some(drain)) => drain.eos_given = false,
+            _ => {}
         }
         first_hit(slip, STREAM_DRAIN, &[(draining, INVALID_OPERATION, "already draining")])?;
-        self.drain = Some(ticket);
+        let eos_given = match slip {
+            Some(Slip::NewDrainMarked) => true,
+            Some(Slip::MarkOutlives(_) | Slip::RefusedEosGiven(_)) => self.kept,
+            _ => false,
+        };
+        self.drain = Some(Drain { ticket, eos_given });
+        self.kept = slip == Some(Slip::OutputsAskedAtDrain) && self.output.has_any();
         Ok(())
     }
 
@@ -720,7 +869,7 @@ impl Stream {
     /// 0x0105: "Accepted: no answer now; the ticket and timestamp are kept."
     fn resource_queue(&mut self, slip: Option<Slip>, ticket: u32, frame: &[u8]) -> Result<(), Hit> {
         let slips = |other| slip == Some(other);
-        let draining = self.drain.is_some();
+        let draining = self.seen_drain(slip, RESOURCE_QUEUE).is_some();
         let input = word(frame, 8) == INPUT;
         let queue = self.named(word(frame, 8));
         let mut timestamp = long(frame, 16);
@@ -899,6 +1048,11 @@ impl Queue {
         self.resources.iter().all(Option::is_some)
     }
 
+    /// Whether it has a resource, in any state.
+    pub fn has_any(&self) -> bool {
+        self.resources.iter().any(Option::is_some)
+    }
+
     /// "A new stream or resource takes the lowest free place."
     fn free(&self, slip: Option<Slip>) -> Option<usize> {
         if slip == Some(Slip::HighestSlot) {
@@ -938,6 +1092,16 @@ impl Queue {
 impl Resource {
     pub fn is_queued(&self) -> bool {
         matches!(self.state, State::Queued { .. })
+    }
+}
+
+impl State {
+    pub fn name(self) -> Why {
+        match self {
+            State::Created => "Created",
+            State::Queued { .. } => "Queued",
+            State::Dequeued => "Dequeued",
+        }
     }
 }
 

@@ -10,6 +10,10 @@ pub const BLOCK: usize = 512;
 pub const SPENT_AT: usize = 4096;
 /// From here on the table's words have no use.
 pub const UNUSED_AT: usize = 4128;
+/// Where the drain's word stands in a block, its ticket behind it.
+pub const DRAIN_AT: usize = 3;
+/// Added to the drain's word where a slip remembers something, so that it gets from step to step.
+const KEPT: u32 = 4;
 /// Where a queue starts in a block.
 pub const INPUT_AT: usize = 8;
 pub const OUTPUT_AT: usize = 92;
@@ -27,7 +31,7 @@ pub enum Broken {
     Live,
     /// A vacant place is not all zero.
     Vacant,
-    /// Drain owed is neither 0 nor 1.
+    /// The drain's word is none of 0 (none owed), 1 (owed) and 2 (owed, and EOS given).
     Drain,
     /// A drain's ticket stands while none is owed.
     DrainTicket,
@@ -171,19 +175,39 @@ fn read_place(block: &[u32], slip: Option<Slip>) -> Result<Option<Stream>, Broke
         return Ok(None);
     }
     let coded_format = block[2];
-    let pending = block[3] != 0;
-    ask(block[3] <= 1, Broken::Drain, slip)?;
-    ask(pending || block[4] == 0, Broken::DrainTicket, slip)?;
+    let kept = slip.is_some_and(Slip::remembers) && block[DRAIN_AT] & KEPT != 0;
+    let drain_word = if kept { block[DRAIN_AT] - KEPT } else { block[DRAIN_AT] };
+    let drain = read_drain(drain_word, block[DRAIN_AT + 1], slip)?;
     ask(all_zero(&block[5..INPUT_AT]), Broken::Head, slip)?;
     ask(all_zero(&block[TAIL_AT..]), Broken::Tail, slip)?;
     ask((0x1000..=0x1005).contains(&coded_format), Broken::Format, slip)?;
     Ok(Some(Stream {
         number: block[1],
         coded_format,
-        drain: pending.then_some(block[4]),
+        drain,
         input: read_queue(&block[INPUT_AT..OUTPUT_AT], QueueType::Input, coded_format, slip)?,
         output: read_queue(&block[OUTPUT_AT..TAIL_AT], QueueType::Output, coded_format, slip)?,
+        kept,
     }))
+}
+
+/// The drain of a block's two words: "0 none pending; 1 pending; 2 pending, and EOS was given since
+/// it was accepted", and the ticket.
+fn read_drain(word: u32, ticket: u32, slip: Option<Slip>) -> Result<Option<Drain>, Broken> {
+    let good = match slip {
+        Some(Slip::DrainWordTaken(taken)) => word <= 2 || word == taken,
+        Some(Slip::HighDrainWordTaken) => word <= 2 || word >= 1 << 31,
+        Some(Slip::MarkedRefused) => word <= 1,
+        _ => word <= 2,
+    };
+    ask(good, Broken::Drain, slip)?;
+    let any_ticket = match slip {
+        Some(Slip::MarkedTicketRefused) => word == 1,
+        _ => word != 0,
+    };
+    ask(any_ticket || ticket == 0, Broken::DrainTicket, slip)?;
+    let eos_given = word >= 2 && slip != Some(Slip::MarkReadAs1);
+    Ok((word != 0).then_some(Drain { ticket, eos_given }))
 }
 
 fn read_queue(
@@ -243,7 +267,7 @@ pub fn write(device: &Device, words: &mut [u32]) {
     for (place, block) in device.places.iter().zip(words.chunks_exact_mut(BLOCK)) {
         match place {
             None => block.fill(0),
-            Some(stream) => write_place(stream, block),
+            Some(stream) => write_place(stream, block, device.slip),
         }
     }
     write_spent(device, words);
@@ -262,16 +286,28 @@ pub fn write_spent(device: &Device, words: &mut [u32]) {
     }
 }
 
-fn write_place(stream: &Stream, block: &mut [u32]) {
+fn write_place(stream: &Stream, block: &mut [u32], slip: Option<Slip>) {
     block[0] = 1;
     block[1] = stream.number;
     block[2] = stream.coded_format;
-    block[3] = u32::from(stream.drain.is_some());
-    block[4] = stream.drain.unwrap_or(0);
+    block[DRAIN_AT..DRAIN_AT + 2].copy_from_slice(&drain_words(stream.drain, slip));
+    if stream.kept {
+        block[DRAIN_AT] += KEPT;
+    }
     block[5..INPUT_AT].fill(0);
     write_queue(&stream.input, &mut block[INPUT_AT..OUTPUT_AT]);
     write_queue(&stream.output, &mut block[OUTPUT_AT..TAIL_AT]);
     block[TAIL_AT..].fill(0);
+}
+
+fn drain_words(drain: Option<Drain>, slip: Option<Slip>) -> [u32; 2] {
+    match (drain, slip) {
+        (None, _) => [0, 0],
+        (Some(Drain { ticket, eos_given: false }), _) => [1, ticket],
+        (Some(Drain { ticket, .. }), Some(Slip::MarkWrittenAs(word))) => [word, ticket],
+        (Some(_), Some(Slip::MarkWithoutTicket)) => [2, 0],
+        (Some(Drain { ticket, .. }), _) => [2, ticket],
+    }
 }
 
 fn write_queue(queue: &Queue, words: &mut [u32]) {
@@ -301,7 +337,7 @@ pub fn without_use(device: &Device) -> Vec<usize> {
             continue;
         };
         if stream.drain.is_none() {
-            unused.push(start + 4);
+            unused.push(start + DRAIN_AT + 1);
         }
         unused.extend(start + 5..start + INPUT_AT);
         for (queue, at) in [(&stream.input, INPUT_AT), (&stream.output, OUTPUT_AT)] {

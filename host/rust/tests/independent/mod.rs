@@ -10,6 +10,7 @@
 pub mod archive;
 pub mod coverage;
 pub mod device;
+pub mod drains;
 pub mod frames;
 pub mod layout;
 pub mod log;

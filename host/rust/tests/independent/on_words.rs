@@ -2,7 +2,7 @@
 //! included.
 
 use super::device::*;
-use super::layout::{self, BLOCK, INPUT_AT, OUTPUT_AT, SPENT_AT, UNUSED_AT, WORDS};
+use super::layout::{self, BLOCK, DRAIN_AT, INPUT_AT, OUTPUT_AT, SPENT_AT, UNUSED_AT, WORDS};
 use super::slips::Slip;
 
 /// What a step gives back: a refusal number or 0, with the number of bytes written.
@@ -58,6 +58,9 @@ impl Core for OnWords {
             (Some(Slip::ClearSetsQueueHead), QUEUE_CLEAR, 16) => {
                 clear_and_mark(table, ticket, frame, answers)
             }
+            (Some(Slip::DestroyLeavesMark), STREAM_DESTROY, 8) => {
+                destroy_but_the_mark(table, ticket, frame, answers)
+            }
             _ => on_words(self.0, COMMAND, table, answers, |device, room| {
                 device.command(ticket, frame, room)
             }),
@@ -105,15 +108,35 @@ fn clear_and_mark(table: &mut [u32], ticket: u32, frame: &[u8], answers: &mut [u
     outcome
 }
 
+/// A destruction under `DestroyLeavesMark`.
+fn destroy_but_the_mark(
+    table: &mut [u32],
+    ticket: u32,
+    frame: &[u8],
+    answers: &mut [u8],
+) -> Outcome {
+    let marked = block_named(table, frame).filter(|block| table[block + DRAIN_AT] == 2);
+    let outcome = OnWords(None).command(table, ticket, frame, answers);
+    if let (0, Some(block)) = (outcome.refusal, marked) {
+        table[block + DRAIN_AT] = 2;
+    }
+    outcome
+}
+
 /// Where word 0 of the queue stands that a frame names, if it does.
 fn head_named(table: &[u32], frame: &[u8]) -> Option<usize> {
     let in_block = match QueueType::of(word(frame, 8))? {
         QueueType::Input => INPUT_AT,
         QueueType::Output => OUTPUT_AT,
     };
+    Some(block_named(table, frame)? + in_block)
+}
+
+/// Where the block of the live stream starts that a frame names, if it does.
+fn block_named(table: &[u32], frame: &[u8]) -> Option<usize> {
     let mut blocks = table.chunks_exact(BLOCK).take(PLACES);
     let place = blocks.position(|block| block[0] == 1 && block[1] == word(frame, 4))?;
-    Some(place * BLOCK + in_block)
+    Some(place * BLOCK)
 }
 
 /// The words that a table has to have.
@@ -148,8 +171,10 @@ fn on_words(
         return outcome;
     }
     if room.len() < ROOM && !slip.is_some_and(|slip| slip.leaves_room_to_device(kind)) {
-        if slip == Some(Slip::ShortRoomSpends) {
-            spend_all_the_same(table, step);
+        match slip {
+            Some(Slip::ShortRoomSpends) => spend_all_the_same(table, step),
+            Some(Slip::ShortRoomGivesEos) => mark_all_the_same(table, step),
+            _ => {}
         }
         return refuse(3);
     }
@@ -177,6 +202,9 @@ fn on_enough(
     }
     let done = step(&mut device, room.len());
     if done.refusal != 0 {
+        if slip.is_some_and(Slip::changes_refused) {
+            layout::write(&device, words);
+        }
         return refuse(done.refusal);
     }
     if slip == Some(Slip::StepForgets(kind)) {
@@ -198,5 +226,16 @@ fn spend_all_the_same(table: &mut [u32], step: impl FnOnce(&mut Device, usize) -
     if let Ok(mut device) = layout::read(&table[..WORDS], None) {
         step(&mut device, ROOM);
         layout::write_spent(&device, table);
+    }
+}
+
+/// Under `ShortRoomGivesEos`: of what the step would do with room enough, the marks stay.
+fn mark_all_the_same(table: &mut [u32], step: impl FnOnce(&mut Device, usize) -> Done) {
+    let Ok(mut device) = layout::read(&table[..WORDS], None) else { return };
+    step(&mut device, ROOM);
+    for (place, block) in device.places.iter().zip(table.chunks_exact_mut(BLOCK)) {
+        if place.as_ref().is_some_and(Stream::eos_given) {
+            block[DRAIN_AT] = 2;
+        }
     }
 }

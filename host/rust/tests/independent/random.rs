@@ -5,7 +5,7 @@
 use super::device::*;
 use super::frames::{self, put, put_long};
 use super::layout::{
-    self, BLOCK, INPUT_AT, OUTPUT_AT, SLOT, SLOTS_AT, SPENT_AT, TAIL_AT, UNUSED_AT, WORDS,
+    self, BLOCK, DRAIN_AT, INPUT_AT, OUTPUT_AT, SLOT, SLOTS_AT, SPENT_AT, TAIL_AT, UNUSED_AT, WORDS,
 };
 
 /// SplitMix64: one number of state, every seed good.
@@ -188,6 +188,23 @@ const HEAD_EDGES: [(usize, &str, &str); 2] = [
     (OUTPUT_AT, "word 0 of an output queue 1", "word 0 of an output queue above 1"),
 ];
 
+/// The drain's word and its ticket with the names of their edges, first those of a good word.
+const DRAIN_WORD_EDGES: [(u32, u32, &str); 13] = [
+    (0, 0, "drain's word 0, its ticket 0"),
+    (0, 1, "drain's word 0, its ticket not 0"),
+    (1, 0, "drain's word 1, its ticket 0"),
+    (1, u32::MAX, "drain's word 1, its ticket not 0"),
+    (2, 0, "drain's word 2, its ticket 0"),
+    (2, 9, "drain's word 2, its ticket not 0"),
+    (3, 0, "drain's word 3"),
+    (3, 9, "drain's word 3"),
+    (4, 0, "drain's word above 3"),
+    (0x0001_0002, 9, "drain's word above 3"),
+    (0x8000_0000, 0, "drain's word above 3"),
+    (0x8000_0002, 9, "drain's word above 3"),
+    (u32::MAX, 9, "drain's word above 3"),
+];
+
 /// Bytes that are UTF-8 by RFC 3629: the first and last character of each length and beside the
 /// surrogates, and odd ones.
 const GOOD_TEXT: [&[u8]; 14] = [
@@ -319,6 +336,7 @@ impl Generator {
                 0..20 => self.plan_peak(device),
                 20..26 => self.plan_spending(device),
                 26..34 => self.plan_late(device),
+                34..74 => self.plan_drain(device),
                 _ => {}
             }
         }
@@ -336,7 +354,7 @@ impl Generator {
             kind => {
                 let mut frame = self.frame(kind, device);
                 self.damage(&mut frame);
-                Act::Command { ticket: self.ticket(), frame }
+                self.told(frame)
             }
         }
     }
@@ -940,14 +958,17 @@ impl Generator {
         Act::Finish(Report { stream: number, queue_type, resource, flags, timestamp })
     }
 
+    /// A drained report: often for a stream whose drain it answers, or for one whose drain is owed
+    /// and which is not that far.
     fn drained(&mut self, device: &Device) -> Act {
-        let ready: Vec<u32> = device
+        let ready = self.rng.percent(60);
+        let draining: Vec<u32> = device
             .streams()
-            .filter(|stream| stream.can_be_drained())
+            .filter(|stream| stream.drain.is_some() && stream.can_be_drained() == ready)
             .map(|stream| stream.number)
             .collect();
-        let stream = if !ready.is_empty() && self.rng.percent(60) {
-            self.rng.pick(&ready)
+        let stream = if !draining.is_empty() && self.rng.percent(75) {
+            self.rng.pick(&draining)
         } else {
             self.stream(device)
         };
@@ -1120,16 +1141,117 @@ impl Generator {
         let kind = self.rng.pick(&[STREAM_DESTROY, STREAM_DRAIN]);
         frames.push(frames::frame(kind, old, 8));
         self.plan_frames(frames);
-        let flags = self.rng.below(2) as u32;
-        let report = Report { stream: old, queue_type, resource, flags, timestamp: 6 };
-        self.plan.splice(0..0, [Act::Drained { stream: old }, Act::Finish(report)]);
+        let report = |stream, flags| {
+            Act::Finish(Report { stream, queue_type, resource, flags, timestamp: 6 })
+        };
+        // Once its own buffer is finished, the new stream can be drained.
+        let last = if queue_type == OUTPUT { EOS } else { 0 };
+        let late = report(old, self.rng.below(2) as u32);
+        self.plan.splice(0..0, [Act::Drained { stream: old }, report(new, last), late]);
+    }
+
+    /// A stream without resources gets a few, in any state, and is drained twice. Amid its drains come
+    /// EOS, late and once too often, drained reports, and all else that may touch them.
+    fn plan_drain(&mut self, device: &Device) {
+        let live = self.live(device).map(|stream| stream.number);
+        let number = live.unwrap_or_else(|| self.unspent(device));
+        let mut acts = Vec::new();
+        if live.is_none() {
+            acts.push(self.told(frames::stream_create(number, 0x1003, b"drain")));
+        }
+        for kind in [QUEUE_CLEAR, RESOURCE_DESTROY_ALL] {
+            for queue_type in [INPUT, OUTPUT] {
+                acts.push(self.told(frames::on_queue(kind, number, queue_type)));
+            }
+        }
+        for queue_type in [INPUT, OUTPUT] {
+            for resource in 0..self.rng.below(3) as u32 {
+                acts.extend(self.resource_in_any_state(number, queue_type, resource));
+            }
+        }
+        for _ in 0..2 {
+            acts.push(self.told(frames::frame(STREAM_DRAIN, number, 8)));
+            if self.rng.percent(60) {
+                acts.extend(self.queued_and_last(number));
+            }
+            for _ in 0..self.rng.below(8) {
+                acts.push(self.amid_drain(number));
+            }
+            if self.rng.percent(35) {
+                acts.extend(self.other_outputs(number));
+            }
+            acts.push(Act::Drained { stream: number });
+        }
+        acts.reverse();
+        self.plan = acts;
+    }
+
+    /// Queues an output and finishes it with EOS.
+    fn queued_and_last(&mut self, stream: u32) -> [Act; 2] {
+        let (resource, timestamp) = (self.rng.below(2) as u32, self.timestamp());
+        let flags = self.rng.pick(&[EOS, ERR + EOS]);
+        [
+            self.told(frames::resource_queue(stream, OUTPUT, resource, timestamp, 1)),
+            Act::Finish(Report { stream, queue_type: OUTPUT, resource, flags, timestamp }),
+        ]
+    }
+
+    /// Destroys all outputs, Queued ones too, and creates another or none.
+    fn other_outputs(&mut self, stream: u32) -> Vec<Act> {
+        let mut acts = vec![
+            self.told(frames::on_queue(QUEUE_CLEAR, stream, OUTPUT)),
+            self.told(frames::on_queue(RESOURCE_DESTROY_ALL, stream, OUTPUT)),
+            self.told(frames::resource_create(stream, OUTPUT, 0, &[1], &[(0, 1)])),
+        ];
+        acts.truncate(self.rng.within(2, 3));
+        acts
+    }
+
+    /// Creates a resource, then queues it, then finishes it, or less of this.
+    fn resource_in_any_state(&mut self, stream: u32, queue_type: u32, resource: u32) -> Vec<Act> {
+        let timestamp = self.timestamp();
+        let mut acts = vec![
+            self.told(frames::resource_create(stream, queue_type, resource, &[1], &[(0, 1)])),
+            self.told(frames::resource_queue(stream, queue_type, resource, timestamp, 1)),
+            Act::Finish(Report { stream, queue_type, resource, flags: 0, timestamp }),
+        ];
+        acts.truncate(self.rng.within(1, 3));
+        acts
+    }
+
+    /// A step that may come while the drain of a stream of few resources is owed.
+    fn amid_drain(&mut self, stream: u32) -> Act {
+        let resource = self.rng.below(2) as u32;
+        let either = self.rng.pick(&[INPUT, OUTPUT]);
+        let timestamp = self.timestamp();
+        let frame = match self.rng.below(20) {
+            0..8 => {
+                let queue_type = self.rng.pick(&[INPUT, OUTPUT, OUTPUT, OUTPUT]);
+                let flags = self.rng.pick(&[0, 0, 1, 2, 2, 2, 3, 3, 6]);
+                return Act::Finish(Report { stream, queue_type, resource, flags, timestamp });
+            }
+            8..11 => return Act::Drained { stream },
+            11..14 => frames::resource_queue(stream, OUTPUT, resource, timestamp, 1),
+            14 => frames::resource_queue(stream, INPUT, resource, timestamp, 1),
+            15 => frames::resource_create(stream, either, resource, &[1], &[(0, 1)]),
+            16 => frames::on_queue(RESOURCE_DESTROY_ALL, stream, either),
+            17 => frames::on_queue(QUEUE_CLEAR, stream, either),
+            18 => frames::set_params(stream, OUTPUT, NV12, 64, 64, 0),
+            _ => frames::frame(STREAM_DRAIN, stream, 8),
+        };
+        self.told(frame)
+    }
+
+    /// A command with a ticket of its own.
+    fn told(&mut self, frame: Vec<u8>) -> Act {
+        Act::Command { ticket: self.ticket(), frame }
     }
 
     /// Plans commands, the first of which comes next.
     fn plan_frames(&mut self, frames: Vec<Vec<u8>>) {
         for frame in frames.into_iter().rev() {
-            let ticket = self.ticket();
-            self.plan.push(Act::Command { ticket, frame });
+            let act = self.told(frame);
+            self.plan.push(act);
         }
     }
 
@@ -1147,7 +1269,7 @@ impl Generator {
                 device.spent.add(number);
                 let coded_format = self.coded_format();
                 let mut stream = Stream::new(number, coded_format);
-                stream.drain = self.rng.percent(40).then(|| self.ticket());
+                stream.drain = self.lent_drain();
                 for queue_type in [QueueType::Input, QueueType::Output] {
                     *stream.queue(queue_type) =
                         self.lent_queue(queue_type, coded_format, resources, queued);
@@ -1156,6 +1278,14 @@ impl Generator {
             }
         }
         device
+    }
+
+    /// An owed drain, with the mark or without, or none.
+    fn lent_drain(&mut self) -> Option<Drain> {
+        if self.rng.percent(50) {
+            return None;
+        }
+        Some(Drain { ticket: self.ticket(), eos_given: self.rng.percent(50) })
     }
 
     fn lent_queue(
@@ -1231,7 +1361,7 @@ impl Generator {
         let queue = block + self.rng.pick(&[INPUT_AT, OUTPUT_AT]);
         let slot = |rng: &mut Rng| queue + SLOTS_AT + SLOT * rng.below(SLOTS);
         let odd = self.rng.pick(&ODD_WORDS);
-        match self.rng.below(14) {
+        match self.rng.below(19) {
             0 => table[self.rng.below(WORDS)] = odd,
             1 => table[self.rng.below(WORDS)] ^= 1 << self.rng.below(32),
             2 => table[block + self.rng.below(INPUT_AT)] = odd,
@@ -1246,7 +1376,8 @@ impl Generator {
             8 => table[self.rng.within(SPENT_AT, UNUSED_AT - 1)] = self.rng.word(),
             9 => return self.spoil_unused(table),
             10 | 11 => return self.spoil_number(table),
-            _ => return self.spoil_head(table),
+            12 | 13 => return self.spoil_head(table),
+            _ => return self.spoil_drain(table),
         }
         None
     }
@@ -1301,6 +1432,17 @@ impl Generator {
         }
         table[block + head] = self.rng.pick(&[2, 3, 0x100, 0x0001_0000, 0x8000_0000, 0xffff_ffff]);
         Some(above)
+    }
+
+    /// Changes the drain of a live stream, if there is one: its word and its ticket.
+    fn spoil_drain(&mut self, table: &mut [u32]) -> Option<&'static str> {
+        let block = self.live_block(table)?;
+        let (good, bad) = DRAIN_WORD_EDGES.split_at(6);
+        let edges = if self.rng.percent(70) { good } else { bad };
+        let (word, ticket, edge) = self.rng.pick(edges);
+        table[block + DRAIN_AT] = word;
+        table[block + DRAIN_AT + 1] = ticket;
+        Some(edge)
     }
 
     /// The length of an answer room: mostly enough.

@@ -118,6 +118,58 @@ pub enum Slip {
     /// The size of an output follows the defaults.
     DefaultPlaneSizes,
 
+    // Of drains and their last picture.
+    /// A drained report needs EOS also where there are no outputs.
+    DrainedNeedsEos,
+    /// A drained report is refused while there are outputs, EOS given or not.
+    DrainedNeedsNoOutputs,
+    /// Without EOS, a drained report is refused while there are inputs, whatever the outputs.
+    DrainedLooksAtInputs,
+    /// Without EOS, a drained report is refused while there are resources of either queue.
+    DrainedLooksAtBoth,
+    /// To a drained report, outputs in this state are none.
+    OutputsOverlooked(Why),
+    /// To a drained report, only Queued outputs are outputs.
+    OnlyQueuedOutputsCount,
+    /// To a drained report, the outputs of all streams are its stream's.
+    OutputsOfAnyStream,
+    /// Whether there are outputs is asked when the drain comes and not when it is reported.
+    OutputsAskedAtDrain,
+    /// To this kind of report, EOS was given where it was to any stream's drain.
+    EosOfAnyStream(u32),
+    /// An EOS is given to the drains of all streams.
+    EosGivenToAll,
+    /// A finish of this queue with these flags gives EOS too.
+    EosGivenBy(u32, u32),
+    /// A finish with these flags gives no EOS.
+    EosNotGivenBy(u32),
+    /// The finish of the last Queued output gives EOS, whatever its flags.
+    LastOutputGivesEos,
+    /// A second EOS is taken where it comes with ERR.
+    SecondWithErrTaken,
+    /// A second EOS, which is refused, drops the mark.
+    SecondDropsMark,
+    /// An EOS that is refused for this reason is given all the same; with no drain owed, to the next.
+    RefusedEosGiven(Why),
+    /// A drained report that is refused for this reason counts as EOS.
+    RefusedDrainedGives(Why),
+    /// A drained report that is refused for this reason drops the mark.
+    RefusedDrainedLoses(Why),
+    /// A drained report that is refused for this reason drops the drain, unanswered.
+    RefusedDrainedEnds(Why),
+    /// A refused drain drops the mark.
+    RefusedDrainLosesMark,
+    /// This kind of step, on this queue, drops the mark.
+    MarkLostBy(u32, u32),
+    /// Where this kind of step answers a drain, the mark is kept for the next drain.
+    MarkOutlives(u32),
+    /// A new drain has the mark.
+    NewDrainMarked,
+    /// To this kind of step, a drain with EOS given is not owed.
+    MarkedIsNoDrain(u32),
+    /// An EOS drops the drain, unanswered.
+    EosForgetsDrain,
+
     // Of the spent numbers.
     /// A number may be created again once its stream is destroyed.
     OnlyLiveRefused,
@@ -178,6 +230,22 @@ pub enum Slip {
     QueueHeadStopsQueueing,
     /// A clear leaves word 0 of its queue 1.
     ClearSetsQueueHead,
+    /// A table is taken in which the drain's word is this one.
+    DrainWordTaken(u32),
+    /// A table is taken in which the drain's word is 2^31 or more.
+    HighDrainWordTaken,
+    /// A table in which the drain's word is 2 is not valid.
+    MarkedRefused,
+    /// Where the drain's word is 2, the ticket has to be 0.
+    MarkedTicketRefused,
+    /// 2 is read as 1 in the drain's word.
+    MarkReadAs1,
+    /// This is written in place of 2 in the drain's word.
+    MarkWrittenAs(u32),
+    /// With the mark the ticket is not written.
+    MarkWithoutTicket,
+    /// A destruction leaves the drain's word where it is 2.
+    DestroyLeavesMark,
     /// A live number of at most 1,023 need not be spent.
     LowLiveTaken,
     /// A live number above 1,023 is taken.
@@ -206,6 +274,8 @@ pub enum Slip {
     TableBeforeRoom,
     /// A creation that is good but for its short room spends its number.
     ShortRoomSpends,
+    /// An EOS that is good but for its short room is given.
+    ShortRoomGivesEos,
     /// The room's bytes behind those written are cleared.
     RoomCleared,
     /// This kind of step, or making fresh, refuses a table under so many words.
@@ -231,6 +301,14 @@ impl Slip {
             | Slip::HighQueueHeadTaken
             | Slip::QueueHeadStopsQueueing
             | Slip::ClearSetsQueueHead
+            | Slip::DrainWordTaken(_)
+            | Slip::HighDrainWordTaken
+            | Slip::MarkedRefused
+            | Slip::MarkedTicketRefused
+            | Slip::MarkReadAs1
+            | Slip::MarkWrittenAs(_)
+            | Slip::MarkWithoutTicket
+            | Slip::DestroyLeavesMark
             | Slip::StepForgets(_)
             | Slip::LowLiveTaken
             | Slip::HighLiveTaken
@@ -246,6 +324,7 @@ impl Slip {
             | Slip::HolesRefused
             | Slip::TableBeforeRoom
             | Slip::ShortRoomSpends
+            | Slip::ShortRoomGivesEos
             | Slip::RoomCleared
             | Slip::Needs(..)
             | Slip::AllWordsAsked
@@ -267,6 +346,23 @@ impl Slip {
             Slip::First(of, "command under 8 bytes") => of == kind,
             _ => false,
         }
+    }
+
+    /// Whether it remembers of a stream what its record does not hold.
+    pub fn remembers(self) -> bool {
+        matches!(self, Slip::OutputsAskedAtDrain | Slip::MarkOutlives(_) | Slip::RefusedEosGiven(_))
+    }
+
+    /// Whether a report that is refused changes the records.
+    pub fn changes_refused(self) -> bool {
+        matches!(
+            self,
+            Slip::SecondDropsMark
+                | Slip::RefusedEosGiven(_)
+                | Slip::RefusedDrainedGives(_)
+                | Slip::RefusedDrainedLoses(_)
+                | Slip::RefusedDrainedEnds(_)
+        )
     }
 }
 
@@ -317,6 +413,56 @@ const NAMED: &[Slip] = &[
     Slip::TimestampIn32Bits,
     Slip::HalfSecondStride,
     Slip::DefaultPlaneSizes,
+    Slip::DrainedNeedsEos,
+    Slip::DrainedNeedsNoOutputs,
+    Slip::DrainedLooksAtInputs,
+    Slip::DrainedLooksAtBoth,
+    Slip::OutputsOverlooked("Created"),
+    Slip::OutputsOverlooked("Queued"),
+    Slip::OutputsOverlooked("Dequeued"),
+    Slip::OnlyQueuedOutputsCount,
+    Slip::OutputsOfAnyStream,
+    Slip::OutputsAskedAtDrain,
+    Slip::EosOfAnyStream(FINISH),
+    Slip::EosOfAnyStream(DRAINED),
+    Slip::EosGivenToAll,
+    Slip::EosGivenBy(INPUT, 0),
+    Slip::EosGivenBy(INPUT, ERR),
+    Slip::EosGivenBy(OUTPUT, 0),
+    Slip::EosGivenBy(OUTPUT, ERR),
+    Slip::EosNotGivenBy(EOS),
+    Slip::EosNotGivenBy(ERR + EOS),
+    Slip::LastOutputGivesEos,
+    Slip::SecondWithErrTaken,
+    Slip::SecondDropsMark,
+    Slip::RefusedEosGiven("flags outside ERR and EOS"),
+    Slip::RefusedEosGiven("no buffer now Queued"),
+    Slip::RefusedEosGiven("EOS on an input"),
+    Slip::RefusedEosGiven("EOS with no drain owed"),
+    Slip::RefusedDrainedGives("an input still Queued"),
+    Slip::RefusedDrainedGives("EOS not given, and outputs there"),
+    Slip::RefusedDrainedLoses("an input still Queued"),
+    Slip::RefusedDrainedEnds("an input still Queued"),
+    Slip::RefusedDrainedEnds("EOS not given, and outputs there"),
+    Slip::RefusedDrainLosesMark,
+    Slip::MarkLostBy(RESOURCE_CREATE, INPUT),
+    Slip::MarkLostBy(RESOURCE_CREATE, OUTPUT),
+    Slip::MarkLostBy(RESOURCE_QUEUE, OUTPUT),
+    Slip::MarkLostBy(RESOURCE_DESTROY_ALL, INPUT),
+    Slip::MarkLostBy(RESOURCE_DESTROY_ALL, OUTPUT),
+    Slip::MarkLostBy(QUEUE_CLEAR, OUTPUT),
+    Slip::MarkLostBy(SET_PARAMS, OUTPUT),
+    Slip::MarkLostBy(FINISH, INPUT),
+    Slip::MarkLostBy(FINISH, OUTPUT),
+    Slip::MarkOutlives(QUEUE_CLEAR),
+    Slip::MarkOutlives(DRAINED),
+    Slip::NewDrainMarked,
+    Slip::MarkedIsNoDrain(STREAM_DESTROY),
+    Slip::MarkedIsNoDrain(STREAM_DRAIN),
+    Slip::MarkedIsNoDrain(RESOURCE_QUEUE),
+    Slip::MarkedIsNoDrain(QUEUE_CLEAR),
+    Slip::MarkedIsNoDrain(DRAINED),
+    Slip::EosForgetsDrain,
     Slip::OnlyLiveRefused,
     Slip::OnlyDestroyedRefused,
     Slip::DestroyedAskedLast,
@@ -349,6 +495,17 @@ const NAMED: &[Slip] = &[
     Slip::HighQueueHeadTaken,
     Slip::QueueHeadStopsQueueing,
     Slip::ClearSetsQueueHead,
+    Slip::DrainWordTaken(3),
+    Slip::DrainWordTaken(4),
+    Slip::DrainWordTaken(u32::MAX),
+    Slip::HighDrainWordTaken,
+    Slip::MarkedRefused,
+    Slip::MarkedTicketRefused,
+    Slip::MarkReadAs1,
+    Slip::MarkWrittenAs(1),
+    Slip::MarkWrittenAs(3),
+    Slip::MarkWithoutTicket,
+    Slip::DestroyLeavesMark,
     Slip::LowLiveTaken,
     Slip::HighLiveTaken,
     Slip::LiveByLastBits,
@@ -364,6 +521,7 @@ const NAMED: &[Slip] = &[
     Slip::HolesRefused,
     Slip::TableBeforeRoom,
     Slip::ShortRoomSpends,
+    Slip::ShortRoomGivesEos,
     Slip::RoomCleared,
     Slip::AllWordsAsked,
     Slip::FreshFills(SPENT_AT),
@@ -389,6 +547,7 @@ const OF_TESTS: &[Slip] = &[
     Slip::First(QUERY_CONTROL, "unsupported control"),
     Slip::First(SET_CONTROL, "stream not live"),
     Slip::First(FINISH, "no buffer now Queued"),
+    Slip::First(FINISH, "a second EOS"),
     Slip::Last(FINISH, "no buffer now Queued"),
     Slip::Last(FINISH, "flags outside ERR and EOS"),
     Slip::Gives(STREAM_CREATE, "no place", INVALID_PARAMETER),
@@ -397,6 +556,8 @@ const OF_TESTS: &[Slip] = &[
     Slip::Gives(RESOURCE_QUEUE, "already Queued", INVALID_RESOURCE),
     Slip::Gives(STREAM_DRAIN, "already draining", INVALID_PARAMETER),
     Slip::Gives(FINISH, "EOS with no drain owed", 5),
+    Slip::Gives(FINISH, "a second EOS", 5),
+    Slip::Gives(DRAINED, "EOS not given, and outputs there", 6),
 ];
 
 /// The fields of a creation, by the tests made of them.
@@ -464,7 +625,7 @@ fn of_numbers() -> Vec<Slip> {
 fn of_tables() -> Vec<Slip> {
     let mut slips = Vec::new();
     for kind in [COMMAND, FINISH, DRAINED] {
-        let rules = [Broken::QueueHead, Broken::NotSpent, Broken::Unused];
+        let rules = [Broken::Drain, Broken::QueueHead, Broken::NotSpent, Broken::Unused];
         slips.extend(rules.map(|rule| Slip::TakenBy(kind, rule)));
     }
     for kind in [FRESH, COMMAND, FINISH, DRAINED] {

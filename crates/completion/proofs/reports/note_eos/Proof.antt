@@ -17,8 +17,8 @@ same-length c = search needs
 
 returns : tie.Need-returns
 returns c n b e h =
-    let after-give-eos = c .before .before in let then1 = after-give-eos .before .before in
-    let many : 2 ≤ _ = then1 .if1 .taken in
+    let after-give-eos = c .before .before in let then1 = after-give-eos .before .before in let start = then1 .before .before in
+    let many : 2 ≤ start .args .flags = omega (arith, then1 .if1 .taken) in
     after-give-eos .give-eos .ensures n b (eos-due _ b many h) e ∙ ap (λ (x : Stream). placeWords (occupied n x)) (eos-noted _ b many)
 
 returns-2 : tie.Need-returns-2
