@@ -1,5 +1,6 @@
 -- `valid::places::head_stands` meets its contract: a law for each case of the drain word.
 use mathlib.Core.Path.{_∙_}
+use Prim.Native.Nat.{_≤_}
 use borrow.Author.Needs.{needs}
 use Rattle.valid.proofs.PlaceStands.{head-idle, head-draining, head-other}
 use Rattle.valid.proofs.places.head_stands.Statement.{statement}
@@ -40,7 +41,8 @@ all-zero-requires-2 c κs = search needs
 returns-2 : tie.Need-returns-2
 returns-2 c =
     let then2 = c .before .before in let else1 = then2 .before in let start = else1 .before .before .before in
-    c .all-zero2 .ensures ∙ head-draining _ (start .pre .0) (start .pre .1) (else1 .if1 .left) (then2 .if2 .taken)
+    let known : _ ≤ 2 = then2 .if2 .taken in
+    c .all-zero2 .ensures ∙ head-draining _ (start .pre .0) (start .pre .1) (else1 .if1 .left) known
 
 returns-3 : tie.Need-returns-3
 returns-3 c =
