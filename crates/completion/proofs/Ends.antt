@@ -15,7 +15,7 @@ use Rattle.laws.proofs.Tests.{never}
 use Rattle.laws.proofs.Lists.{none-is, no-element, keep-ext, keep-const}
 use Rattle.laws.proofs.Ascending.{length-ascending}
 use Rattle.laws.proofs.Stores.{wrote-none, wrote-append}
-use Rattle.model.specs.Device.{QueueType, input, output, dequeued, Slot, resource, Queue, Stream, occupied, queueOf, withQueue, drainTicket, withDrain, lastGiven, withEos, withSlots, Buffer, buffer, queuedIn, byResource, bufferOf, noResource, place}
+use Rattle.model.specs.Device.{QueueType, input, output, dequeued, Slot, resource, Queue, Stream, occupied, queueOf, withQueue, drainTicket, withDrain, eosGivenIn, withEos, withSlots, Buffer, buffer, queuedIn, byResource, bufferOf, noResource, place}
 use Rattle.model.specs.Frames.{queueNamed}
 use Rattle.model.specs.Answers.{bufferDone, drainDone, Answer, responseType, bytesOf}
 use Rattle.model.specs.Replies.{Reply, refuse, reply}
@@ -61,11 +61,11 @@ module _ (b : Stream) where
   pub input-waits : isEmpty (queuedIn (b .inputs .slots)) ≡ false → false ≡ drainOver b
   input-waits h = rw h
 
-  pub last-came : isEmpty (queuedIn (b .inputs .slots)) ≡ true → lastGiven b ≡ true → true ≡ drainOver b
-  last-came h g = rw (h, g)
+  pub eos-came : isEmpty (queuedIn (b .inputs .slots)) ≡ true → eosGivenIn b ≡ true → true ≡ drainOver b
+  eos-came h g = rw (h, g)
 
-  pub last-missing : isEmpty (queuedIn (b .inputs .slots)) ≡ true → lastGiven b ≡ false → noResource (b .outputs .slots) ≡ drainOver b
-  last-missing h g = rw (h, g)
+  pub eos-missing : isEmpty (queuedIn (b .inputs .slots)) ≡ true → eosGivenIn b ≡ false → noResource (b .outputs .slots) ≡ drainOver b
+  eos-missing h g = rw (h, g)
 
 -- A finish report
 
@@ -89,7 +89,7 @@ module _ (flags : ℕ) (q : QueueType) (b : Stream) where
   pub eos-input : 2 ≤ flags → q ≡ input → true ≡ badEos flags q b
   eos-input h e = rw (le-leb 2 flags h, e)
 
-  pub eos-draining : (t : ℕ) → 2 ≤ flags → q ≡ output → some t ≡ drainTicket b → lastGiven b ≡ badEos flags q b
+  pub eos-draining : (t : ℕ) → 2 ≤ flags → q ≡ output → some t ≡ drainTicket b → eosGivenIn b ≡ badEos flags q b
   eos-draining t h e o = rw (le-leb 2 flags h, e, ← o)
 
   pub eos-no-drain : 2 ≤ flags → q ≡ output → none ≡ drainTicket b → true ≡ badEos flags q b
@@ -97,7 +97,7 @@ module _ (flags : ℕ) (q : QueueType) (b : Stream) where
 
   -- EOS that is taken has its drain, also in the record with another queue
   pub eos-drain : (x : Queue) → badEos flags q b ≡ false → hasEos flags && isNone (drainTicket (withQueue q x b)) ≡ false
-  eos-drain x h = ap (λ (t : Option ℕ). hasEos flags && isNone t) (kept q) ∙ of (hasEos flags) (isInput q) (isNone (drainTicket b)) (lastGiven b) h
+  eos-drain x h = ap (λ (t : Option ℕ). hasEos flags && isNone t) (kept q) ∙ of (hasEos flags) (isInput q) (isNone (drainTicket b)) (eosGivenIn b) h
     where
       kept : (o : QueueType) → drainTicket (withQueue o x b) ≡ drainTicket b
       kept input = refl

@@ -54,14 +54,14 @@ fn drain_over(block: &[u32]) -> bool
     if queue::any_queued(&block[from..from + QUEUE_WORDS]) {
         return false;
     }
-    if table::last_given(block) {
+    if table::eos_given(block) {
         return true;
     }
     let at = table::queue_start(QueueType::Output);
     queue::no_resource(&block[at..at + QUEUE_WORDS])
 }
 
-// A finish report whose flags are known: a Queued buffer is answered and becomes Dequeued.
+// A finish report whose flags are known: a Queued buffer is answered and becomes Dequeued, and EOS is noted.
 pub fn finish(
     block: &mut [u32],
     stream: u32,
@@ -140,7 +140,7 @@ fn bad_eos(block: &[u32], queue: QueueType, flags: u32) -> bool
     let DrainState::Draining(_) = drain else {
         return true;
     };
-    table::last_given(block)
+    table::eos_given(block)
 }
 
 // Flags with EOS give it for the pending drain.
@@ -153,7 +153,7 @@ fn note_eos(block: &mut [u32], flags: u32)
     }
 }
 
-// Answers the Queued buffer in slot k, which becomes Dequeued.
+// Answers the Queued buffer in slot k, which becomes Dequeued; EOS among the flags is noted.
 fn answer_slot(
     block: &mut [u32],
     queue: QueueType,

@@ -25,7 +25,7 @@ pub more-cases : MoreCases
 unfolding within same insertBy below notBelow field littleEndian classOf utf8After utf8 nulAt goodTag fresh putRecord isSpent spend ruleOf queueNamed responseBytes readFrom byTests onCreate onDestroy onDrain onCreateResource onQueue onDestroyAll onClear parameterWords onGet onSet onCommand onFinish onDrained streamOf serve hostRefusal stepOn accepted ownerOf belongs outOfMemoryAt awaitedBy completes inOrder ownTickets u32 u64 wellFormed
 more-cases = record {
   spent-numbers = refl;
-  last-outputs = refl;
+  eos-of-drains = refl;
   owners = refl;
   accepts = refl;
   last-error = refl;

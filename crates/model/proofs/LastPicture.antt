@@ -5,16 +5,16 @@ use native.Mathlib.Omega.{arith}
 use mathlib.Core.Path.{_≡_, refl, sym, ap, ap₂, _∙_, subst}
 use mathlib.Core.Bool.{Bool, true, false, cond, not, _&&_, _||_, and-false, or-false}
 use mathlib.Core.Option.{Option, none, some, Option·map}
-use mathlib.Core.List.{List, [], _∷_, _++_, append-nil, head-eq-of-cons-eq, tail-eq-of-cons-eq}
+use mathlib.Core.List.{List, [], _∷_, _++_, append-nil}
 use lib.ListN.{length, length-map}
 use lib.Dec.{eqb}
-use borrow.Author.Tests.{eqb-true, not-true, not-false}
-use Rattle.laws.specs.Lists.{keep, howMany, isEmpty, isNone, toList}
-use Rattle.laws.proofs.Tests.{never, both, and-left, and-right}
+use borrow.Author.Tests.{eqb-true, not-false}
+use Rattle.laws.specs.Lists.{keep, anyOf, howMany, isEmpty, isNone, toList}
+use Rattle.laws.proofs.Tests.{never, and-left, and-right}
 use Rattle.laws.proofs.Lists.{decide, cond-elim, eqb-same, no-element, keep-ext, keep-const, keep-keep, keep-append, keep-comm, keep-whole}
 use Rattle.laws.proofs.InOrder.{tests-cases, tests-all}
 use Rattle.field.specs.Field.{field}
-use Rattle.model.specs.Device.{QueueType, input, output, Queue, PendingDrain, newDrain, giveEos, ticketOf, givenFor, Stream, Device, fresh, withQueue, lastGiven, queuedIn, noResource, recordOf}
+use Rattle.model.specs.Device.{QueueType, input, output, Slot, free, resource, Queue, PendingDrain, newDrain, giveEos, ticketOf, eosGivenFor, Stream, Device, fresh, withQueue, eosGivenIn, queuedIn, slotNumber, noResource, recordOf}
 use Rattle.model.specs.Frames.{QueueCommand, createResource, queueResource, destroyAll, clear, getParameters, setParameters, queueNumber}
 use Rattle.model.specs.Replies.{Reply, Request, fail}
 use Rattle.model.specs.Commands.{Surroundings, onCreate, onDestroy, onDrain, onCreateResource, onQueue, onDestroyAll, onClear, onGet, onSet, onQueueOf, onLive, onCommand}
@@ -24,7 +24,7 @@ use Rattle.model.specs.WellFormed.{wellFormed, goodAct, goodSteps}
 use Rattle.model.specs.Ledger.{noted, Awaited, toBuffer, toDrain, Pending, Ledger, stepStream, stepTicket, awaitedBy, pending, adds, isDrain, completes, completedBy, awaits, inOrder, ledgerAfter, completed, notedOf, ledgerFrom, ledgerOf}
 use Rattle.model.specs.Tables.{Layout, Lawful}
 use Rattle.model.specs.Condition3.{stepsOf, Run}
-use Rattle.model.specs.Promises.{isEosFinish, givesEos, hasOutputs, LastPicture, NoDrainWithoutLast}
+use Rattle.model.specs.Promises.{isEosFinish, givesEos, hasOutputs, Acceptance, LastPicture, NoDrainWithoutLast}
 use Rattle.model.proofs.LedgerView.{View, viewOf, isTo}
 use Rattle.model.proofs.Fits.{acceptedReply, holding}
 use Rattle.model.proofs.Rules.{named-number}
@@ -33,7 +33,7 @@ use Rattle.model.proofs.Origins.{command-cases, live-cases, finish-case
 use Rattle.model.proofs.WellFormed.{well-fresh}
 use Rattle.model.proofs.ReadBack.{read-back}
 use Rattle.model.proofs.Condition3.{accepted-is, step-stream-is, Agree, agree-fresh, agree-step}
-use Rattle.model.proofs.Tables.{final-well, same-events, same-run}
+use Rattle.model.proofs.Tables.{final-well, same-events, same-run, parted}
 use Rattle.model.proofs.Unchanged.{acceptedDeviceReply}
 
 -- A pending drain by its record
@@ -102,7 +102,7 @@ command-counts around c =
     (live-cases (CountsNone (b .draining)) c b (λ x. not-changed c b e) tt (drain-counts c b e) (queue-counts c b e) k))
 
 -- EOS that is taken is the first for a pending drain
-first-counts : (d : Option PendingDrain) → (isNone (ticketOf d) || givenFor d) ≡ false → Counts true (Option·map giveEos d) d
+first-counts : (d : Option PendingDrain) → (isNone (ticketOf d) || eosGivenFor d) ≡ false → Counts true (Option·map giveEos d) d
 first-counts none h = never h
 first-counts (some d) h = simp h
 
@@ -231,15 +231,9 @@ module _ (n k : ℕ) (a : Act) (z : Bool) (l : Ledger) where
 
 -- the drain c of n is pending after events, of which the first has number k, and one of them began it
 record Begun (n k : ℕ) (l : Ledger) (es : List Event) (c : PendingDrain) : Type 0 where
-  earlier : List Event
-  acceptance : Event
-  since : List Event
-  eventsAre : es ≡ earlier ++ acceptance ∷ since
-  isAccepted : accepted acceptance ≡ true
-  ofDrain : awaitedBy (acceptance .step .act) ≡ some toDrain
-  ofStream : stepStream (acceptance .step .act) ≡ n
-  inLedger : drainsTo n (ledgerFrom k l es) ≡ adds (k + length earlier) (acceptance .step .act)
-  counted : howMany (givesEos n) since ≡ timesGiven c
+  begin : Acceptance n es
+  inLedger : drainsTo n (ledgerFrom k l es) ≡ adds (k + length (begin .earlier)) (begin .acceptedBy .step .act)
+  counted : howMany (givesEos n) (begin .since) ≡ timesGiven c
 
 -- by the drain that was pending before them: it is the same, or one of them began it
 data Came (n k : ℕ) (l : Ledger) (es : List Event) (c : PendingDrain) : Option PendingDrain → Type 0 where
@@ -260,13 +254,7 @@ module _ (n k : ℕ) (l : Ledger) (e : Event) (es : List Event) (c : PendingDrai
   first-came none b′ m s s′ (asBefore g) d h = absurd (omega (arith, s, s′, ap length g))
   first-came none b′ m s s′ (oneMore acc w own g) d h =
       begun (record {
-        earlier = [];
-        acceptance = e;
-        since = es;
-        eventsAre = refl;
-        isAccepted = acc;
-        ofDrain = w;
-        ofStream = own;
+        begin = record { earlier = []; acceptedBy = e; since = es; eventsAre = refl; isAccepted = acc; ofDrain = w; ofStream = own };
         inLedger = d ∙ g ∙ ap (λ (x : List Pending). adds k a ++ x) (no-element (drainsTo n l) s) ∙ append-nil (adds k a) ∙ ap (λ (j : ℕ). adds j a) (omega arith);
         counted = omega (arith, simp m at h);
       })
@@ -276,23 +264,27 @@ module _ (n k : ℕ) (l : Ledger) (e : Event) (es : List Event) (c : PendingDrai
       g ∙ ap (λ (x : Option Awaited). pending k (stepTicket a) (stepStream a) x ++ drainsTo n l) w in
       absurd (omega (arith, s, s′, ap length two))
 
+  -- one event more in front
   came-more : (b b′ : Option PendingDrain) → Counts (givesEos n e) b′ b
       → length (drainsTo n l) ≡ length (toList (ticketOf b)) → length (drainsTo n next) ≡ length (toList (ticketOf b′)) → Came n (suc k) next es c b′ → Came n k l (e ∷ es) c b
   came-more b _ m s s′ (atFirst b′ d h) =
       first-came b b′ m s s′ (drains-grow n k a (eqb (e .refusal) 0) l (accepted e) (omega (arith, s, s′, one-drain b))) d h
   came-more b b′ m s s′ (begun g) =
       begun (record {
-        earlier = e ∷ g .earlier;
-        acceptance = g .acceptance;
-        since = g .since;
-        eventsAre = ap (λ r. e ∷ r) (g .eventsAre);
-        isAccepted = g .isAccepted;
-        ofDrain = g .ofDrain;
-        ofStream = g .ofStream;
-        inLedger = g .inLedger ∙ ap (λ (j : ℕ). adds j (g .acceptance .step .act)) (omega arith);
+        begin = record {
+          earlier = e ∷ g .begin .earlier;
+          acceptedBy = g .begin .acceptedBy;
+          since = g .begin .since;
+          eventsAre = ap (λ r. e ∷ r) (g .begin .eventsAre);
+          isAccepted = g .begin .isAccepted;
+          ofDrain = g .begin .ofDrain;
+          ofStream = g .begin .ofStream;
+        };
+        inLedger = g .inLedger ∙ ap (λ (j : ℕ). adds j (g .begin .acceptedBy .step .act)) (omega arith);
         counted = g .counted;
       })
 
+-- so over a list: a drain that is pending at its end was pending at its start, or one of its events began it
 came : (n k : ℕ) (d : Device) (l : Ledger) (ss : List Step) (c : PendingDrain) → Agree d l → goodSteps ss ≡ true → drainHeld (recordOf n (final d ss .places)) ≡ some c
     → Came n k l (eventsOf d ss) c (drainHeld (recordOf n (d .places)))
 came n k d l [] c g m is = subst (Came n k l [] c) (sym is) (atFirst c refl (omega arith))
@@ -334,8 +326,13 @@ has-drain (some c) t e = (c, refl)
 -- where there are outputs, EOS was given for it
 once-given : (b : Stream) (c : PendingDrain) → drainOver b ≡ true → b .draining ≡ some c → hasOutputs (some b) ≡ true → timesGiven c ≡ 1
 once-given b c over is out =
-    let last : (lastGiven b || noResource (b .outputs .slots)) ≡ true = and-right (isEmpty (queuedIn (b .inputs .slots))) _ over in
-    simp (ap givenFor (sym is) ∙ (simp (not-true (noResource (b .outputs .slots)) out, or-false (lastGiven b)) at last))
+    let last : (eosGivenIn b || noResource (b .outputs .slots)) ≡ true = and-right (isEmpty (queuedIn (b .inputs .slots))) _ over in
+    simp (ap eosGivenFor (sym is) ∙ (simp (some-resource (b .outputs .slots) out, or-false (eosGivenIn b)) at last))
+  where
+    some-resource : (l : List Slot) → anyOf (λ (x : Slot). not (isNone (slotNumber x))) l ≡ true → noResource l ≡ false
+    some-resource [] h = never (sym h)
+    some-resource (free ∷ l) h = some-resource l h
+    some-resource (resource r p ∷ l) h = refl
 
 -- it completes all drains of its stream, and a drain by itself is in order
 drained-completes : (n k : ℕ) (z : Bool) (l : Ledger) → completed (noted k (drained n) z true) l ≡ inOrder (drainsTo n l)
@@ -346,22 +343,17 @@ drain-alone : (k t n : ℕ) (w : Option Awaited) → w ≡ some toDrain → inOr
 unfolding inOrder
 drain-alone k t n w e = simp e
 
+-- what is promised of an accepted report, from what came before it
 picture : (n : ℕ) (before : List Event) (e : Event) (b : Stream) (c : PendingDrain) → e .step .act ≡ drained n → accepted e ≡ true → drainOver b ≡ true → b .draining ≡ some c
     → Came n 0 [] before c none → LastPicture n before e (some b)
 picture n before e b c a acc over is (begun g) =
-    let drain = g .acceptance .step .act in
+    let drain = g .begin .acceptedBy .step .act in
     record {
-      earlier = g .earlier;
-      acceptance = g .acceptance;
-      since = g .since;
-      beforeIs = g .eventsAre;
-      isAccepted = g .isAccepted;
-      ofDrain = g .ofDrain;
-      ofStream = g .ofStream;
+      acceptance = g .begin;
       answers = simp (a, acc)
           (drained-completes n (length before) (eqb (e .refusal) 0) (ledgerOf before)
           ∙ ap inOrder (g .inLedger ∙ ap (λ (k : ℕ). adds k drain) (omega arith))
-          ∙ drain-alone (length (g .earlier)) (stepTicket drain) (stepStream drain) (awaitedBy drain) (g .ofDrain));
+          ∙ drain-alone (length (g .begin .earlier)) (stepTicket drain) (stepStream drain) (awaitedBy drain) (g .begin .ofDrain));
       oneEos = λ out. g .counted ∙ once-given b c over is out;
       atMostOne = omega (arith, g .counted, at-most-once c);
     }
@@ -371,6 +363,7 @@ fresh-none : (n : ℕ) → drainHeld (recordOf n (fresh .places)) ≡ none
 unfolding fresh
 fresh-none n = refl
 
+-- and so over devices
 fresh-picture : (n : ℕ) (ss : List Step) (s : Step) → goodSteps ss ≡ true → goodAct (s .act) ≡ true → s .act ≡ drained n → accepted (eventOf s (stepOn (final fresh ss) s)) ≡ true
     → LastPicture n (eventsOf fresh ss) (eventOf s (stepOn (final fresh ss) s)) (recordOf n (final fresh ss .places))
 fresh-picture n ss s m g a acc =
@@ -382,28 +375,6 @@ fresh-picture n ss s m g a acc =
     subst (LastPicture n before e) (sym (over .self-is))
     (picture n before e (found .0) (drain .0) a acc (over .over-is) (drain .1)
     (subst (Came n 0 [] before (drain .0)) (fresh-none n) (came n 0 fresh [] ss (drain .0) agree-fresh m (ap drainHeld (over .self-is) ∙ drain .1))))
-
--- the events before one are those of their own steps, and it is that of its own step on the device that these leave
-record Parted (d : Device) (before : List Event) (e : Event) : Type 0 where
-  first : before ≡ eventsOf d (stepsOf before)
-  next-is : e ≡ eventOf (e .step) (stepOn (final d (stepsOf before)) (e .step))
-  first-good : goodSteps (stepsOf before) ≡ true
-  next-good : goodAct (e .step .act) ≡ true
-
-parted : (d : Device) (ss : List Step) (before later : List Event) (e : Event) → goodSteps ss ≡ true → eventsOf d ss ≡ before ++ e ∷ later → Parted d before e
-parted d [] [] later e m split = never (ap isEmpty split)
-parted d [] (y ∷ before) later e m split = never (ap isEmpty split)
-parted d (s ∷ ss) [] later e m split =
-    subst (Parted d []) (head-eq-of-cons-eq split) (record { first = refl; next-is = refl; first-good = refl; next-good = and-left (goodAct (s .act)) (goodSteps ss) m })
-parted d (s ∷ ss) (y ∷ before) later e m split =
-    let rest = parted (stepOn d s .device) ss before later e (and-right (goodAct (s .act)) (goodSteps ss) m) (tail-eq-of-cons-eq split) in
-    subst (λ (x : Event). Parted d (x ∷ before) e) (head-eq-of-cons-eq split)
-    (record {
-      first = ap (λ r. eventOf s (stepOn d s) ∷ r) (rest .first);
-      next-is = rest .next-is;
-      first-good = both (and-left (goodAct (s .act)) (goodSteps ss) m) (rest .first-good);
-      next-good = rest .next-good;
-    })
 
 pub no-drain-without-last : (L : Layout) → Lawful L → NoDrainWithoutLast L
 no-drain-without-last L law t ss before later e n h m split a acc =

@@ -7,7 +7,6 @@ use mathlib.Core.List.{[], _∷_}
 use lib.ListN.{length}
 use lib.Dec.{eqb, ltb}
 use Rattle.laws.specs.Tests.{within}
-use Rattle.laws.specs.Lists.{}
 use Rattle.laws.specs.InOrder.{byTests}
 use Rattle.laws.proofs.Lists.{cond-elim}
 use Rattle.tag.specs.Tag.{goodTag, tagIn}

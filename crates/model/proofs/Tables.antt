@@ -3,12 +3,12 @@ use Prim.Native.Nat.{ℕ, _≤_}
 use native.Mathlib.Omega.{arith}
 use mathlib.Core.Path.{_≡_, refl, sym, ap, ap₂, _∙_, subst}
 use mathlib.Core.Bool.{Bool, true}
-use mathlib.Core.List.{List, [], _∷_, _++_}
+use mathlib.Core.List.{List, [], _∷_, _++_, head-eq-of-cons-eq, tail-eq-of-cons-eq}
 use lib.ListN.{length, take, drop, length-append, length-drop, take-append-drop}
 use lib.Seq.{take-at, drop-at}
 use lib.Dec.{eqb, ltb}
 use borrow.Author.Tests.{lt-ltb, ltb-false, le-ltb}
-use Rattle.laws.specs.Lists.{allOf, same}
+use Rattle.laws.specs.Lists.{allOf, isEmpty, same}
 use Rattle.laws.proofs.Tests.{never, both, and-left, and-right}
 use Rattle.laws.proofs.Lists.{decide, all-keep}
 use Rattle.laws.proofs.Same.{same-refl, same-true}
@@ -212,3 +212,27 @@ fresh-long L law t h =
   where
     fresh-result : freshen L t .refusal ≡ 0
     fresh-result = ap (λ (x : Freshened). x .refusal) (fresh-is L t h)
+
+-- A list of events at one of them
+
+-- the events before one are those of their own steps, and it is that of its own step on the device that these leave
+pub record Parted (d : Device) (before : List Event) (e : Event) : Type 0 where
+  pub first : before ≡ eventsOf d (stepsOf before)
+  pub next-is : e ≡ eventOf (e .step) (stepOn (final d (stepsOf before)) (e .step))
+  pub first-good : goodSteps (stepsOf before) ≡ true
+  pub next-good : goodAct (e .step .act) ≡ true
+
+pub parted : (d : Device) (ss : List Step) (before later : List Event) (e : Event) → goodSteps ss ≡ true → eventsOf d ss ≡ before ++ e ∷ later → Parted d before e
+parted d [] [] later e m split = never (ap isEmpty split)
+parted d [] (y ∷ before) later e m split = never (ap isEmpty split)
+parted d (s ∷ ss) [] later e m split =
+    subst (Parted d []) (head-eq-of-cons-eq split) (record { first = refl; next-is = refl; first-good = refl; next-good = and-left (goodAct (s .act)) (goodSteps ss) m })
+parted d (s ∷ ss) (y ∷ before) later e m split =
+    let rest = parted (stepOn d s .device) ss before later e (and-right (goodAct (s .act)) (goodSteps ss) m) (tail-eq-of-cons-eq split) in
+    subst (λ (x : Event). Parted d (x ∷ before) e) (head-eq-of-cons-eq split)
+    (record {
+      first = ap (λ r. eventOf s (stepOn d s) ∷ r) (rest .first);
+      next-is = rest .next-is;
+      first-good = both (and-left (goodAct (s .act)) (goodSteps ss) m) (rest .first-good);
+      next-good = rest .next-good;
+    })

@@ -171,7 +171,8 @@ eosCases =
     case (askCreate ∷ askResource 0x101 9 ∷ askDrain 4 ∷ []) (drained 7 refused 5 ∷ [])
     ∷ case (askCreate ∷ askResource 0x100 9 ∷ askDrain 4 ∷ []) (drained 7 gives successTo 4 ∷ [])
     ∷ case (bothDraining ++ askQueue 5 0x101 9 77 1 ∷ [])
-    (finish 7 0x101 9 3 88 gives bufferEnds 5 88 3
+    (drained 7 refused 5
+    ∷ finish 7 0x101 9 3 88 gives bufferEnds 5 88 3
     ∷ askQueue 6 0x101 9 78 1 gives []
     ∷ finish 7 0x101 9 2 89 refused 6
     ∷ askClear 8 0x101 gives (bufferEnds 6 78 1 ++ successTo 8)
@@ -207,7 +208,7 @@ withOutputs s = putBack 7 (some (withQueue output (withSlots s newQueue) (newStr
 pub record MoreCases : Type 0 where
   -- though runs show them too: a wrong rule is then refused by a case
   pub spent-numbers : allOf passes spentCases ≡ true
-  pub last-outputs : allOf passes eosCases ≡ true
+  pub eos-of-drains : allOf passes eosCases ≡ true
   -- a command of an unknown type, and a report that is refused, belong to the number in them; a command of 7 bytes belongs to none
   pub owners : map (belongs 7) (
       eventAfter [] (ask 5 (0x0100 ∷ 7 ∷ []))

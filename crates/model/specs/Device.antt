@@ -51,9 +51,9 @@ abbrev pub ticketOf : Option PendingDrain → Option ℕ
 ticketOf d = Option·map (λ (x : PendingDrain). x .ticket) d
 
 -- whether EOS was given for it; not so where none is pending
-abbrev pub givenFor : Option PendingDrain → Bool
-givenFor none = false
-givenFor (some d) = d .eosGiven
+abbrev pub eosGivenFor : Option PendingDrain → Bool
+eosGivenFor none = false
+eosGivenFor (some d) = d .eosGiven
 
 -- the record of a live stream: coded format, a pending drain, the two queues. Its number stands in its place.
 pub record Stream : Type 0 where
@@ -105,8 +105,8 @@ abbrev pub withDrain : Option ℕ → Stream → Stream
 withDrain t b = record { format = b .format; draining = Option·map newDrain t; inputs = b .inputs; outputs = b .outputs }
 
 -- whether EOS was given for its pending drain
-abbrev pub lastGiven : Stream → Bool
-lastGiven b = givenFor (b .draining)
+abbrev pub eosGivenIn : Stream → Bool
+eosGivenIn b = eosGivenFor (b .draining)
 
 -- the record with EOS given for its pending drain
 abbrev pub withEos : Stream → Stream

@@ -7,10 +7,10 @@ use mathlib.Core.Option.{Option, none, some}
 use mathlib.Core.List.{List, [], _∷_, _++_, map}
 use lib.ListN.{length, take, drop}
 use lib.Dec.{eqb, ltb, leb}
-use Rattle.laws.specs.Lists.{anyOf, allOf, Each, howMany}
+use Rattle.laws.specs.Lists.{anyOf, allOf, Each, howMany, isNone}
 use Rattle.field.specs.Field.{field}
 use Rattle.model.specs.Numbers.{tableWords, answerRoom}
-use Rattle.model.specs.Device.{Stream, Place, vacant, occupied, Device, fresh, noResource}
+use Rattle.model.specs.Device.{Slot, Stream, Place, vacant, occupied, Device, fresh, slotNumber}
 use Rattle.model.specs.Frames.{word, streamId}
 use Rattle.model.specs.Answers.{ErrorCode, code, Answer, responseOf, wordBytes, bytesOf, Written, answersIn}
 use Rattle.model.specs.Steps.{Act, command, finish, drained, Step, stepOn, Event, eventOf, answersOf, accepted, belongs, isCreation, outOfMemoryAt}
@@ -159,7 +159,7 @@ SpentExactly L =
 
 -- No drain is said to be done without its last picture. The numbers are written out here too.
 
--- a finish of an output of the stream n with EOS
+-- a finish of an output of the stream n with EOS; flags above 3 are never accepted
 abbrev pub isEosFinish : ℕ → Act → Bool
 isEosFinish n (command t f) = false
 isEosFinish n (finish m qt r flags ts) = eqb m n && (eqb qt 0x101 && leb 2 flags)
@@ -169,25 +169,28 @@ isEosFinish n (drained m) = false
 abbrev pub givesEos : ℕ → Event → Bool
 givesEos n e = isEosFinish n (e .step .act) && accepted e
 
--- the stream is live and has an output resource, in whatever state
+-- the stream is live, and a slot of its outputs holds a resource, in whatever state
 abbrev pub hasOutputs : Option Stream → Bool
 hasOutputs none = false
-hasOutputs (some b) = not (noResource (b .outputs .slots))
+hasOutputs (some b) = anyOf (λ (s : Slot). not (isNone (slotNumber s))) (b .outputs .slots)
 
--- the event e, after the events `before`, answers a drain of the stream n: the event that accepted it, those earlier and those since, of which
--- one, and only one, gives EOS where the stream now has outputs
-pub record LastPicture (n : ℕ) (before : List Event) (e : Event) (self : Option Stream) : Type 0 where
+-- one of the events accepted a drain of the stream n; those earlier, and those since
+pub record Acceptance (n : ℕ) (es : List Event) : Type 0 where
   pub earlier : List Event
-  pub acceptance : Event
+  pub acceptedBy : Event
   pub since : List Event
-  pub beforeIs : before ≡ earlier ++ acceptance ∷ since
-  pub isAccepted : accepted acceptance ≡ true
-  pub ofDrain : awaitedBy (acceptance .step .act) ≡ some toDrain
-  pub ofStream : stepStream (acceptance .step .act) ≡ n
-  -- what e completes is what the acceptance added
-  pub answers : completed (notedOf (length before) e) (ledgerOf before) ≡ adds (length earlier) (acceptance .step .act)
-  pub oneEos : hasOutputs self ≡ true → howMany (givesEos n) since ≡ 1
-  pub atMostOne : howMany (givesEos n) since ≤ 1
+  pub eventsAre : es ≡ earlier ++ acceptedBy ∷ since
+  pub isAccepted : accepted acceptedBy ≡ true
+  pub ofDrain : awaitedBy (acceptedBy .step .act) ≡ some toDrain
+  pub ofStream : stepStream (acceptedBy .step .act) ≡ n
+
+-- the event e, after the events `before`, answers a drain of the stream n, whose record is `self` then: what e completes is what the acceptance added, and
+-- since then EOS was given once where there are outputs, and in no case more than once
+pub record LastPicture (n : ℕ) (before : List Event) (e : Event) (self : Option Stream) : Type 0 where
+  pub acceptance : Acceptance n before
+  pub answers : completed (notedOf (length before) e) (ledgerOf before) ≡ adds (length (acceptance .earlier)) (acceptance .acceptedBy .step .act)
+  pub oneEos : hasOutputs self ≡ true → howMany (givesEos n) (acceptance .since) ≡ 1
+  pub atMostOne : howMany (givesEos n) (acceptance .since) ≤ 1
 
 -- from a fresh table: every accepted drained report answers such a drain
 abbrev pub NoDrainWithoutLast : Layout → Type 0

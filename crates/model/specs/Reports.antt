@@ -1,4 +1,5 @@
--- What the back end's reports do to the record of their stream n: document 01, "Host refusals" 5 and 6, and the lifecycle.
+-- What the back end's reports do to the record of their stream n: document 01, "Host refusals" 5 and 6, as request 6 of document 02 amends them, and the
+-- lifecycle.
 use Prim.Native.Nat.{ℕ, _+_}
 use mathlib.Core.Bool.{Bool, cond, _&&_, _||_}
 use mathlib.Core.Option.{Option, none, some}
@@ -6,7 +7,7 @@ use mathlib.Core.List.{[], _∷_}
 use lib.Dec.{ltb, leb}
 use Rattle.laws.specs.Lists.{isEmpty, isNone}
 use Rattle.model.specs.Numbers.{err, eos}
-use Rattle.model.specs.Device.{QueueType, input, output, dequeued, Stream, queueOf, withQueue, drainTicket, withDrain, lastGiven, withEos, withSlots, Buffer, queuedIn, bufferOf, noResource, setState}
+use Rattle.model.specs.Device.{QueueType, input, output, dequeued, Stream, queueOf, withQueue, drainTicket, withDrain, eosGivenIn, withEos, withSlots, Buffer, queuedIn, bufferOf, noResource, setState}
 use Rattle.model.specs.Frames.{queueNamed}
 use Rattle.model.specs.Answers.{bufferDone, drainDone}
 use Rattle.model.specs.Replies.{Reply, refuse, reply}
@@ -23,7 +24,7 @@ hasEos flags = leb eos flags
 
 -- EOS on an input, with no drain pending, or a second time for one drain
 abbrev pub badEos : ℕ → QueueType → Stream → Bool
-badEos flags q b = hasEos flags && (isInput q || (isNone (drainTicket b) || lastGiven b))
+badEos flags q b = hasEos flags && (isInput q || (isNone (drainTicket b) || eosGivenIn b))
 
 -- flags with EOS give it for the pending drain
 abbrev pub noteEos : ℕ → Stream → Stream
@@ -56,7 +57,7 @@ onFinish n qt r flags ts self = cond (ltb (err + eos) flags) (refuse 6 self) (fi
 
 -- no input is Queued, and EOS was given or there is no output resource at all
 abbrev pub drainOver : Stream → Bool
-drainOver b = isEmpty (queuedIn (b .inputs .slots)) && (lastGiven b || noResource (b .outputs .slots))
+drainOver b = isEmpty (queuedIn (b .inputs .slots)) && (eosGivenIn b || noResource (b .outputs .slots))
 
 -- a pending drain is answered where it is over
 abbrev pub endDrain : ℕ → Stream → Option ℕ → Reply

@@ -12,7 +12,7 @@ use Rattle.laws.specs.Lists.{isNone}
 use Rattle.laws.specs.Parts.{part, withPart, zeros, pieces}
 use Rattle.laws.proofs.Tests.{never}
 use Rattle.laws.proofs.Parts.{zero-length, zero-at, zeros-append, part-mid, withPart-mid}
-use Rattle.model.specs.Device.{PendingDrain, giveEos, ticketOf, givenFor, Stream, Place, vacant, occupied, newQueue, newStream, drainTicket, withDrain, lastGiven, withEos}
+use Rattle.model.specs.Device.{PendingDrain, giveEos, ticketOf, eosGivenFor, Stream, Place, vacant, occupied, newQueue, newStream, drainTicket, withDrain, eosGivenIn, withEos}
 use Rattle.queue.specs.Words.{queueWords}
 use Rattle.queue.proofs.Records.{queue-length}
 use Rattle.table.specs.Blocks.{drainWords, headWords, placeWords}
@@ -58,7 +58,7 @@ drain-words : (d : Option PendingDrain) (z r : List ℕ) → (getD (drainWords d
 drain-words none z r e = absurd (e refl)
 drain-words (some d) z r e = refl
 
-given-words : (d : Option PendingDrain) (z r : List ℕ) → eqb (getD (drainWords d ++ z ++ r) 0 0) 2 ≡ givenFor d
+given-words : (d : Option PendingDrain) (z r : List ℕ) → eqb (getD (drainWords d ++ z ++ r) 0 0) 2 ≡ eosGivenFor d
 given-words none z r = refl
 given-words (some d) z r = of (d .eosGiven)
   where
@@ -91,7 +91,7 @@ module _ (l : List ℕ) (n : ℕ) (b : Stream) (e : l ≡ placeWords (occupied n
   unfolding placeWords headWords
   drain-dropped = ap (λ (x : List ℕ). set (set x 3 0) 4 0) e ∙ ap (λ (x : List ℕ). 1 ∷ n ∷ b .format ∷ x) (put-drain (b .draining) (zeros 3) _ 0 0)
 
-  pub eos-word : eqb (getD l 3 0) 2 ≡ lastGiven b
+  pub eos-word : eqb (getD l 3 0) 2 ≡ eosGivenIn b
   unfolding placeWords headWords
   eos-word = ap (λ (x : List ℕ). eqb (getD x 3 0) 2) e ∙ given-words (b .draining) (zeros 3) _
 

@@ -6,7 +6,7 @@ ghost use Prim.Native.Nat.{ℕ, _≤_};
 ghost use lib.ListN.{length};
 ghost use Rattle.laws.specs.Lists.{isNone};
 ghost use Rattle.laws.specs.Parts.{zeros};
-ghost use Rattle.model.specs.Device.{Stream, vacant, occupied, newQueue, newStream, drainTicket, withDrain, lastGiven, withEos};
+ghost use Rattle.model.specs.Device.{Stream, vacant, occupied, newQueue, newStream, drainTicket, withDrain, eosGivenIn, withEos};
 ghost use Rattle.queue.specs.Words.{queueWords};
 ghost use Rattle.table.specs.Blocks.{queueStart, placeWords};
 ghost use Rattle.protocol.specs.QueueTypes.{queueTypeOf};
@@ -16,8 +16,7 @@ use protocol::QueueType;
 use queue::HEIGHT;
 use queue::WIDTH;
 
-// The words of a block: whether the stream is live, its number and coded format, whether a drain is pending (0, PENDING or LAST_GIVEN) and its ticket, three
-// without use, the two queues.
+// The words of a block: whether the stream is live, its number and coded format, whether a drain is pending and its ticket, three without use, the two queues.
 pub const LIVE: usize = 0;
 
 pub const NUMBER: usize = 1;
@@ -28,11 +27,6 @@ pub const DRAIN: usize = 3;
 
 pub const TICKET: usize = 4;
 
-// A drain is pending; and EOS was given since it was accepted.
-const PENDING: u32 = 1;
-
-pub const LAST_GIVEN: u32 = 2;
-
 pub const UNUSED: usize = 5;
 
 pub const INPUTS: usize = 8;
@@ -41,6 +35,11 @@ pub const OUTPUTS: usize = 92;
 
 // The first word behind the queues; from there on words have no use.
 pub const QUEUES_END: usize = 176;
+
+// What the word DRAIN holds while a drain is pending: without EOS, and with EOS given since it was accepted.
+const PENDING: u32 = 1;
+
+pub const EOS_GIVEN: u32 = 2;
 
 // The width and the height that a creation puts into a queue's words.
 const NEW_WIDTH: u32 = 640;
@@ -116,11 +115,11 @@ pub fn set_drain(b: &mut [u32], ticket: u32)
 }
 
 // Whether EOS was given for the pending drain of the block's stream.
-pub fn last_given(b: &[u32]) -> bool
+pub fn eos_given(b: &[u32]) -> bool
     requires { ⌜ length (now b) ≡ 512 ⌝ }
-    ensures { λ r. ⌜ ((n : ℕ) (s : Stream) → now (b .entry) ≡ placeWords (occupied n s) → r ≡ lastGiven s) ⌝ }
+    ensures { λ r. ⌜ ((n : ℕ) (s : Stream) → now (b .entry) ≡ placeWords (occupied n s) → r ≡ eosGivenIn s) ⌝ }
 {
-    b[DRAIN] == LAST_GIVEN
+    b[DRAIN] == EOS_GIVEN
 }
 
 // EOS is given for the pending drain of the block's stream.
@@ -128,7 +127,7 @@ pub fn give_eos(b: &mut [u32])
     requires { ⌜ length (now b) ≡ 512 ⌝ }
     ensures { λ _. ⌜ ((n : ℕ) (s : Stream) → isNone (drainTicket s) ≡ false → now (b .entry) ≡ placeWords (occupied n s) → now (b .exit) ≡ placeWords (occupied n (withEos s))) ⌝ }
 {
-    b[DRAIN] = LAST_GIVEN;
+    b[DRAIN] = EOS_GIVEN;
 }
 
 // No drain of the block's stream is pending.

@@ -20,9 +20,9 @@ use crate::queues::queue_well;
 use protocol::coded_good;
 use table::BLOCKS_WORDS;
 use table::DRAIN;
+use table::EOS_GIVEN;
 use table::FORMAT;
 use table::INPUTS;
-use table::LAST_GIVEN;
 use table::LIVE;
 use table::NUMBER;
 use table::OUTPUTS;
@@ -43,7 +43,7 @@ fn head_stands(h: &[u32]) -> bool
     if drain == 0 {
         return all_zero(&h[TICKET..INPUTS]);
     }
-    if drain <= LAST_GIVEN {
+    if drain <= EOS_GIVEN {
         return all_zero(&h[UNUSED..INPUTS]);
     }
     false

@@ -36,14 +36,14 @@ returns-3 c n b h =
     eos-no-drain (start .args .flags) _ b (omega arith) (ap queueTypeOf (after-enum-told .enum-told .given .1))
     (ap drainOf (sym (c .enum-told4 .given .1)) ∙ after-pending-drain .pending-drain .ensures n b (h .held))
 
-last-given-requires : tie.Need-last-given-requires
-last-given-requires c κs = search needs
+eos-given-requires : tie.Need-eos-given-requires
+eos-given-requires c κs = search needs
 
 returns-4 : tie.Need-returns-4
 returns-4 c n b h =
     let after-enum-told3 = c .before in let after-pending-drain = after-enum-told3 .before .before in let after-enum-told = after-pending-drain .before in
     let start = after-enum-told .before .before .before .before in
-    c .last-given .ensures n b (h .held)
+    c .eos-given .ensures n b (h .held)
     ∙ eos-draining (start .args .flags) _ b _ (omega arith) (ap queueTypeOf (after-enum-told .enum-told .given .1))
     (ap drainOf (sym (after-enum-told3 .enum-told3 .given .1)) ∙ after-pending-drain .pending-drain .ensures n b (h .held))
 
@@ -59,5 +59,5 @@ bad-eos-spec =
     enum-told-3
     enum-told-4
     returns-3
-    last-given-requires
+    eos-given-requires
     returns-4)

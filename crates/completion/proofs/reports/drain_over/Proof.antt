@@ -4,7 +4,7 @@ use borrow.Author.Tests.{not-true, not-false}
 use borrow.Author.Needs.{needs}
 use Rattle.model.specs.Device.{input, output}
 use Rattle.stream.proofs.Steps.{queue-words}
-use Rattle.completion.proofs.Ends.{input-waits, last-came, last-missing}
+use Rattle.completion.proofs.Ends.{input-waits, eos-came, eos-missing}
 use Rattle.completion.proofs.reports.drain_over.Statement.{statement}
 use Rattle.completion.proofs.reports.drain_over.Tie as tie
 
@@ -34,15 +34,15 @@ returns c n b h =
     let after-any-queued = c .before in let after-queue-start = after-any-queued .before .before in
     input-waits b (not-true _ (sym (after-any-queued .any-queued .ensures (b .inputs) (queue-words h input _ (after-queue-start .queue-start .ensures .1))) ∙ c .if1 .taken))
 
-last-given-requires : tie.Need-last-given-requires
-last-given-requires c κs = search needs
+eos-given-requires : tie.Need-eos-given-requires
+eos-given-requires c κs = search needs
 
 returns-2 : tie.Need-returns-2
 returns-2 c n b h =
-    let after-last-given = c .before in let else1 = after-last-given .before in let after-any-queued = else1 .before in
+    let after-eos-given = c .before in let else1 = after-eos-given .before in let after-any-queued = else1 .before in
     let after-queue-start = after-any-queued .before .before in
-    last-came b (not-false _ (sym (after-any-queued .any-queued .ensures (b .inputs) (queue-words h input _ (after-queue-start .queue-start .ensures .1))) ∙ else1 .if1 .left))
-    (sym (after-last-given .last-given .ensures n b (h .held)) ∙ c .if2 .taken)
+    eos-came b (not-false _ (sym (after-any-queued .any-queued .ensures (b .inputs) (queue-words h input _ (after-queue-start .queue-start .ensures .1))) ∙ else1 .if1 .left))
+    (sym (after-eos-given .eos-given .ensures n b (h .held)) ∙ c .if2 .taken)
 
 queue-start-requires-2 : tie.Need-queue-start-requires-2
 queue-start-requires-2 c κs = search needs
@@ -67,11 +67,11 @@ no-resource-requires c κs = search needs
 
 returns-3 : tie.Need-returns-3
 returns-3 c n b h =
-    let after-queue-start2 = c .before .before in let else2 = after-queue-start2 .before in let after-last-given = else2 .before in
-    let else1 = after-last-given .before in let after-any-queued = else1 .before in let after-queue-start = after-any-queued .before .before in
+    let after-queue-start2 = c .before .before in let else2 = after-queue-start2 .before in let after-eos-given = else2 .before in
+    let else1 = after-eos-given .before in let after-any-queued = else1 .before in let after-queue-start = after-any-queued .before .before in
     c .no-resource .ensures (b .outputs) (queue-words h output _ (after-queue-start2 .queue-start2 .ensures .1))
-    ∙ last-missing b (not-false _ (sym (after-any-queued .any-queued .ensures (b .inputs) (queue-words h input _ (after-queue-start .queue-start .ensures .1))) ∙ else1 .if1 .left))
-    (sym (after-last-given .last-given .ensures n b (h .held)) ∙ else2 .if2 .left)
+    ∙ eos-missing b (not-false _ (sym (after-any-queued .any-queued .ensures (b .inputs) (queue-words h input _ (after-queue-start .queue-start .ensures .1))) ∙ else1 .if1 .left))
+    (sym (after-eos-given .eos-given .ensures n b (h .held)) ∙ else2 .if2 .left)
 
 pub drain-over-spec : {M : Type 1} → statement M
 drain-over-spec =
@@ -85,7 +85,7 @@ drain-over-spec =
     part-any-queued-end
     any-queued-requires
     returns
-    last-given-requires
+    eos-given-requires
     returns-2
     queue-start-requires-2
     add-no-resource
