@@ -407,9 +407,10 @@ virtio_video_finish(uint32_t *table, size_t words, uint32_t stream,
 		    uint64_t timestamp, uint8_t *answers, size_t answers_len);
 
 /*
- * The back end has drained a stream: its STREAM_DRAIN is answered. By then every input has been
- * finished, and an output with EOS, so that the guest knows its last picture. A stream that has
- * no output resources when the report comes needs no EOS. Outputs may be Queued, and stay so.
+ * The back end has drained a stream: its STREAM_DRAIN is answered. By then no input is Queued, and
+ * an output has been finished with EOS since the drain was accepted, so that the guest knows its
+ * last picture. A stream that has no output resources when the report comes needs no EOS. Outputs
+ * may be Queued, and stay so.
  */
 struct virtio_video_outcome
 virtio_video_drained(uint32_t *table, size_t words, uint32_t stream,

@@ -405,6 +405,43 @@ def edges():
     log.command("set the output: EOS stays given", set_params(7, OUTPUT, NV12, 640, 480), ok)
     log.command("destroy all inputs: EOS stays given", destroy_all(7, INPUT), ok)
     log.drained("drained", 7, drained(draining))
+
+    # Stream 7 has output 4, stream 8 has nothing, stream 6 has input 1; none of them drains.
+    draining = log.command("drain", drain(7))
+    picture = log.command("queue output 4, timestamp 15", queue(7, OUTPUT, 4, 15))
+    log.command("clear the output: it gives no EOS", clear(7, OUTPUT), buffer(picture, 15, 1), ok)
+    log.drained("drained, no EOS, the output cleared", 7, refused(5))
+    log.command("destroy all outputs: it gives no EOS", destroy_all(7, OUTPUT), ok)
+    log.command("create output 5", resource(7, OUTPUT, 5), ok)
+    log.drained("drained, no EOS, another output", 7, refused(5))
+    picture = log.command("queue output 5", queue(7, OUTPUT, 5, 16))
+    log.finish("finish output 5, timestamp 81, EOS", 7, OUTPUT, 5, 2, 81, buffer(picture, 81, 2))
+    log.command("destroy all outputs: EOS stays given", destroy_all(7, OUTPUT), ok)
+    log.drained("drained, EOS given, no output left", 7, drained(draining))
+
+    def eos_stays():
+        log.finish("finish output 1 of stream 8, a second EOS: EOS stays given", 8, OUTPUT, 1, 2, 83, refused(6))
+
+    log.command("stream 8: create output 1", resource(8, OUTPUT, 1), ok)
+    eight = log.command("drain", drain(8))
+    picture = log.command("queue output 1", queue(8, OUTPUT, 1, 17))
+    log.finish("finish output 1, timestamp 82, EOS", 8, OUTPUT, 1, 2, 82, buffer(picture, 82, 2))
+    picture = log.command("queue output 1", queue(8, OUTPUT, 1, 18))
+    log.command("stream 7: create output 6", resource(7, OUTPUT, 6), ok)
+    draining = log.command("drain", drain(7))
+    eos_stays()
+    six = log.command("queue output 6 of stream 7", queue(7, OUTPUT, 6, 19))
+    log.finish("finish output 6 of stream 7, timestamp 84, EOS", 7, OUTPUT, 6, 2, 84, buffer(six, 84, 2))
+    log.drained("stream 7 drained", 7, drained(draining))
+    eos_stays()
+    draining = log.command("drain stream 7", drain(7))
+    log.command("clear the input of stream 7: its drain ends", clear(7, INPUT), drained(draining), ok)
+    eos_stays()
+    draining = log.command("drain stream 6", drain(6))
+    log.command("destroy stream 6", destroy(6), drained(draining), ok)
+    eos_stays()
+    log.drained("stream 8 drained", 8, drained(eight))
+    log.finish("finish output 1 of stream 8, timestamp 83", 8, OUTPUT, 1, 0, 83, buffer(picture, 83))
     return log
 
 

@@ -385,7 +385,7 @@ static void draining(void)
 	if (table[DRAIN] != 2 || table[DRAIN + 1] != 17)
 		wrong("the drain in the table");
 	queue(21, "queue output 5 again", OUTPUT, 5, 80, "");
-	finish("output 5 is done, a second last one", OUTPUT, 5, VIRTIO_VIDEO_BUFFER_FLAG_EOS, 0,
+	finish("output 5 is done, EOS a second time", OUTPUT, 5, VIRTIO_VIDEO_BUFFER_FLAG_EOS, 0,
 	       VIRTIO_VIDEO_REFUSAL_BAD_FLAGS, "");
 	/* output 5 stays Queued, for what is decoded next */
 	drained("the stream is drained", 0, "11000000 08000000 00020000 07000000");

@@ -214,9 +214,9 @@ impl Decoder {
 
     /// The back end has drained the stream, whose drain is now answered.
     ///
-    /// By then every input has been finished, and an output with [`wire::BUFFER_FLAG_EOS`], so that
-    /// the guest knows its last picture. A stream that has no output resources when the report comes
-    /// needs no EOS. Outputs may be Queued, and stay so.
+    /// By then no input is Queued, and an output has been finished with [`wire::BUFFER_FLAG_EOS`]
+    /// since the drain was accepted, so that the guest knows its last picture. A stream that has no
+    /// output resources when the report comes needs no EOS. Outputs may be Queued, and stay so.
     ///
     /// # Errors
     ///

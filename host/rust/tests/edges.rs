@@ -234,6 +234,11 @@ fn parameters(ticket: u32, stream: u32, first: &[u32]) -> Answered {
     Ok(vec![(ticket, response)])
 }
 
+/// The drain's word in each of the first four places.
+fn drain_word_of_each(table: &[u32]) -> [u32; 4] {
+    [0, 1, 2, 3].map(|place| table[BLOCK * place + 3])
+}
+
 /// The stream number in a frame.
 fn stream_of(frame: &[u8]) -> u32 {
     u32::from_le_bytes(frame[4..8].try_into().expect("a header"))
@@ -555,7 +560,8 @@ cases! {
     }
 
     /// Without EOS a drained report is refused while there is an output, in each of its states, also
-    /// where the drain was accepted with none; once there is none, it is taken.
+    /// where the drain was accepted with none, and where the outputs were cleared or others took
+    /// their place; once there is none, it is taken.
     fn drained_without_eos(host: with_stream) {
         host.drain(10);
         assert_eq!(host.drain_words(), [1, 10]);
@@ -568,13 +574,24 @@ cases! {
         host.not_drained();
         assert_eq!(host.finish(7, OUTPUT, 1, 0, 6), Ok(vec![buffer(12, 7, 6, 0)]));
         host.not_drained();
+        host.queue(13, OUTPUT, 1, 5);
+        for stopped in [vec![buffer(13, 7, 5, 1)], vec![]] {
+            let answers = [stopped, vec![(14, vec![0x0200, 7])]].concat();
+            assert_eq!(host.command(14, &on_queue(QUEUE_CLEAR, 7, OUTPUT)), Ok(answers));
+            assert_eq!(host.drain_words(), [1, 11]);
+            host.not_drained();
+        }
         host.destroy_all(OUTPUT);
         assert_eq!(host.drain_words(), [1, 11]);
+        host.resource(OUTPUT, 2);
+        host.not_drained();
+        host.destroy_all(OUTPUT);
         assert_eq!(host.drained(7), ok(11, 7));
         host.not_drained();
     }
 
-    /// An output in any one place is enough, and outputs there when the drain was accepted are not.
+    /// An output in any one place stops it, in each state; outputs that were there when the drain was
+    /// accepted do not.
     fn drained_without_eos_by_place_of_the_output(host: with_stream) {
         host.resource(OUTPUT, 3);
         host.drain(10);
@@ -715,7 +732,7 @@ cases! {
     }
 
     /// An EOS that is refused gives none: of an input, of a buffer that is not Queued, with other
-    /// flags, with no drain owed, or with too little room.
+    /// flags, with no drain pending, or with too little room.
     fn refused_eos(host: with_stream) {
         host.resource(INPUT, 1);
         host.resource(OUTPUT, 1);
@@ -744,38 +761,47 @@ cases! {
         assert_eq!(host.drained(7), ok(10, 7));
     }
 
-    /// The mark is kept by all that does not answer the drain: a clear of the outputs, one more
-    /// drain, and what is done to resources and parameters.
+    /// The mark is kept, on or off, by all that does not answer the drain: a clear of the outputs, one
+    /// more drain, and what is done to resources and parameters.
     fn what_keeps_the_mark(host: with_stream) {
-        host.resource(INPUT, 1);
-        host.resource(OUTPUT, 1);
-        host.drain(10);
-        host.finish_output(1, 2);
-        host.queue(11, OUTPUT, 1, 5);
-        let stopped = vec![buffer(11, 7, 5, 1), (3, vec![0x0200, 7])];
-        for (command, answer) in [
-            (on_queue(QUEUE_CLEAR, 7, OUTPUT), Ok(stopped)),
-            (on_queue(QUEUE_CLEAR, 7, OUTPUT), ok(3, 7)),
-            (frame(STREAM_DRAIN, 7, 8), error(3, 0x0300, 7)),
-            (resource_queue(7, INPUT, 1, 0, 0), error(3, 0x0300, 7)),
-            (resource_create(7, INPUT, 2, &[1], &[(0, 1)]), ok(3, 7)),
-            (resource_create(7, OUTPUT, 2, &[1], &[(0, 1)]), ok(3, 7)),
-            (set_params(7, INPUT, H264, 64, 64, 0), ok(3, 7)),
-            (set_params(7, OUTPUT, 3, 64, 64, 0), ok(3, 7)),
-            (on_queue(RESOURCE_DESTROY_ALL, 7, INPUT), ok(3, 7)),
-            (on_queue(RESOURCE_DESTROY_ALL, 7, OUTPUT), ok(3, 7)),
-            (resource_create(7, OUTPUT, 1, &[1], &[(0, 1)]), ok(3, 7)),
-            (frame(QUERY_CONTROL, 7, 16), error(3, 0x0305, 7)),
-            (stream_create(7, H264, b""), error(3, 0x0302, 7)),
-        ] {
-            assert_eq!(host.command(3, &command), answer);
+        for (flags, word) in [(0, 1), (2, 2)] {
+            host.resource(INPUT, 1);
+            host.resource(OUTPUT, 1);
+            host.drain(10);
+            host.finish_output(1, flags);
+            host.queue(11, OUTPUT, 1, 5);
+            let stopped = vec![buffer(11, 7, 5, 1), (3, vec![0x0200, 7])];
+            for (command, answer) in [
+                (on_queue(QUEUE_CLEAR, 7, OUTPUT), Ok(stopped)),
+                (on_queue(QUEUE_CLEAR, 7, OUTPUT), ok(3, 7)),
+                (frame(STREAM_DRAIN, 7, 8), error(3, 0x0300, 7)),
+                (resource_queue(7, INPUT, 1, 0, 0), error(3, 0x0300, 7)),
+                (resource_create(7, INPUT, 2, &[1], &[(0, 1)]), ok(3, 7)),
+                (resource_create(7, OUTPUT, 2, &[1], &[(0, 1)]), ok(3, 7)),
+                (set_params(7, INPUT, H264, 64, 64, 0), ok(3, 7)),
+                (set_params(7, OUTPUT, 3, 64, 64, 0), ok(3, 7)),
+                (on_queue(RESOURCE_DESTROY_ALL, 7, INPUT), ok(3, 7)),
+                (on_queue(RESOURCE_DESTROY_ALL, 7, OUTPUT), ok(3, 7)),
+                (resource_create(7, OUTPUT, 1, &[1], &[(0, 1)]), ok(3, 7)),
+                (frame(QUERY_CONTROL, 7, 16), error(3, 0x0305, 7)),
+                (stream_create(7, H264, b""), error(3, 0x0302, 7)),
+            ] {
+                assert_eq!(host.command(3, &command), answer);
+                assert_eq!(host.drain_words(), [word, 10]);
+            }
+            host.finish_output(1, 0);
+            assert_eq!(host.drain_words(), [word, 10]);
+            if word == 1 {
+                host.not_drained();
+                host.finish_output(1, 2);
+            }
+            host.queue(12, OUTPUT, 1, 5);
+            host.not_finished(OUTPUT, 1, 2, 6);
             assert_eq!(host.drain_words(), [2, 10]);
+            assert_eq!(host.drained(7), ok(10, 7));
+            assert_eq!(host.finish(7, OUTPUT, 1, 0, 6), Ok(vec![buffer(12, 7, 6, 0)]));
+            host.destroy_all(OUTPUT);
         }
-        host.finish_output(1, 0);
-        host.queue(12, OUTPUT, 1, 5);
-        host.not_finished(OUTPUT, 1, 2, 6);
-        assert_eq!(host.drain_words(), [2, 10]);
-        assert_eq!(host.drained(7), ok(10, 7));
     }
 
     /// Each answer to a drain drops the mark: a drained report, a clear of the inputs and the
@@ -840,6 +866,52 @@ cases! {
         assert_eq!(host.drained(8), ok(11, 8));
     }
 
+    /// A drain of one stream, and each answer to it, leaves the marks of the others, on or off, and
+    /// wherever they stand; these are drained after it as they would have been before.
+    fn answers_leave_the_marks_of_others(host: new) {
+        host.create([8]);
+        assert_eq!(host.command(1, &stream_create(7, H264, b"")), ok(1, 7));
+        host.create([9, 10]);
+        for (stream, flags) in [(8, 2), (9, 3), (10, 0)] {
+            let import = resource_create(stream, OUTPUT, 1, &[1], &[(0, 1)]);
+            assert_eq!(host.command(1, &import), ok(1, stream));
+            assert_eq!(host.command(30, &resource_queue(stream, OUTPUT, 1, 5, 0)), Ok(vec![]));
+            let ticket = 40 + stream;
+            assert_eq!(host.command(ticket, &frame(STREAM_DRAIN, stream, 8)), Ok(vec![]));
+            let answer = Ok(vec![buffer(30, stream, 6, flags)]);
+            assert_eq!(host.finish(stream, OUTPUT, 1, flags, 6), answer);
+        }
+        let plain = vec![0x0200, 7];
+        let ended = Ok(vec![(22, plain.clone()), (3, plain)]);
+        for (given, answer) in [
+            (false, DRAINED),
+            (false, QUEUE_CLEAR),
+            (true, DRAINED),
+            (true, QUEUE_CLEAR),
+            (true, STREAM_DESTROY),
+        ] {
+            host.destroy_all(OUTPUT);
+            host.drain(22);
+            assert_eq!(drain_word_of_each(&host.table), [2, 1, 2, 1]);
+            if given {
+                host.resource(OUTPUT, 1);
+                host.finish_output(1, 2);
+                assert_eq!(drain_word_of_each(&host.table), [2, 2, 2, 1]);
+            }
+            match answer {
+                DRAINED => assert_eq!(host.drained(7), ok(22, 7)),
+                QUEUE_CLEAR => assert_eq!(host.command(3, &on_queue(QUEUE_CLEAR, 7, INPUT)), ended),
+                _ => assert_eq!(host.command(3, &frame(STREAM_DESTROY, 7, 8)), ended),
+            }
+            assert_eq!(drain_word_of_each(&host.table), [2, 0, 2, 1]);
+        }
+        assert_eq!(host.drained(8), ok(48, 8));
+        assert_eq!(drain_word_of_each(&host.table), [0, 0, 2, 1]);
+        assert_eq!(host.drained(10), Err(5));
+        assert_eq!(host.drained(9), ok(49, 9));
+        assert_eq!(drain_word_of_each(&host.table), [0, 0, 0, 1]);
+    }
+
     /// The drain's word is 0, 1 or 2; its ticket is 0 where the word is 0, and any where it is not.
     fn drain_words_of_a_table(host: with_stream) {
         host.resource(OUTPUT, 1);
@@ -849,13 +921,13 @@ cases! {
                 host.table[3] = word;
                 host.invalid();
             }
-            // Owed without EOS, and with it.
+            // Pending without EOS, and with it.
             host.table[3] = 1;
             host.not_drained();
             host.table[3] = 2;
             assert_eq!(host.drained(7), ok(ticket, 7));
             assert_eq!(host.drain_words(), [0, 0]);
-            // Not owed.
+            // Not pending.
             host.table[4] = ticket;
             if ticket == 0 {
                 host.valid();

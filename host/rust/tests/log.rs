@@ -378,6 +378,7 @@ fn shown_by_logs(slip: &Slip) -> bool {
             slip,
             Slip::HighestPlace
                 | Slip::HighestSlot
+                | Slip::OutputsSeenBelow(_)
                 | Slip::StreamsMoveDown
                 | Slip::StoppedIsCreated
                 | Slip::FinishedIsCreated

@@ -238,7 +238,7 @@ fn numbers_are_spent_until_a_reset() {
 
 #[test]
 fn words_of_no_device_are_refused() {
-    // Words without use, a drain's word and ticket that no drain has, and the number of the live
+    // Words without use, a drain's word above 2, a ticket with no drain, and the number of the live
     // stream, which is no longer spent.
     for (word, value) in [(511, 1), (wire::TABLE_WORDS - 1, 1), (3, 3), (4, 1), (4096, 0)] {
         let mut words = *ready().table();

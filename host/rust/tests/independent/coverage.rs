@@ -5,7 +5,7 @@ use std::collections::BTreeMap;
 use std::fmt;
 
 use super::device::*;
-use super::drains::{Pasts, DRAIN_EDGES};
+use super::drains::{Pasts, DRAIN_EDGES, SLOT_EDGES};
 use super::layout::{has_hole, WORDS};
 use super::random::BAD_TEXT;
 
@@ -303,7 +303,7 @@ pub struct Coverage {
     refused: BTreeMap<u32, Why>,
     /// Of the table at hand: the numbers that were spent when it was last made fresh.
     forgotten: Spent,
-    /// Of the table at hand: what was of its drains.
+    /// Of the table at hand: what its records do not hold of drains.
     pasts: Pasts,
 }
 
@@ -556,7 +556,7 @@ fn wanted_reasons() -> impl Iterator<Item = (u32, Why, u32)> {
 
 fn wanted_edges() -> impl Iterator<Item = (Why, u32)> {
     let of_tags = BAD_TEXT.iter().map(|&(edge, _)| (edge, INVALID_PARAMETER));
-    EDGES.iter().chain(NUMBER_EDGES).chain(DRAIN_EDGES).copied().chain(of_tags)
+    EDGES.iter().chain(NUMBER_EDGES).chain(DRAIN_EDGES).chain(SLOT_EDGES).copied().chain(of_tags)
 }
 
 /// The kinds of step that can come for a destroyed stream, and what is given. A finish may have bad

@@ -117,7 +117,7 @@ pub struct Stream {
     pub drain: Option<Drain>,
     pub input: Queue,
     pub output: Queue,
-    /// What a slip remembers of a stream. The device itself has no use for it.
+    /// What a slip remembers of a stream, in no table. The device itself has no use for it.
     pub kept: bool,
 }
 
@@ -253,9 +253,13 @@ impl Device {
             return Ok(());
         }
         if let Some(place) = self.asked_place(kind, number, right_length)? {
+            let draining = self.is_draining(number);
             self.serve_live(place, kind, ticket, frame, answers)?;
             if let Some(stream) = self.places[place].as_mut() {
-                stream.lose_mark(self.slip, kind, word(frame, 8));
+                stream.change_mark(self.slip, kind, word(frame, 8));
+            }
+            if draining != self.is_draining(number) {
+                self.drop_marks(kind);
             }
         }
         Ok(())
@@ -511,7 +515,21 @@ impl Device {
                 stream.drain = pending;
             }
         }
+        self.drop_marks(DRAINED);
         Done::taken(answers.bytes)
+    }
+
+    /// A step of this kind has answered a drain or begun one: only a slip drops the marks of all
+    /// streams.
+    fn drop_marks(&mut self, kind: u32) {
+        if self.slip == Some(Slip::AnswerDropsAllMarks(kind)) {
+            self.places.iter_mut().flatten().for_each(|stream| stream.give_eos(false));
+        }
+    }
+
+    /// Whether the live stream of this number owes a drain.
+    fn is_draining(&self, number: u32) -> bool {
+        self.stream(number).is_some_and(|stream| stream.drain.is_some())
     }
 
     /// Whether EOS was given before to the drain that a finish with these flags is for.
@@ -675,6 +693,7 @@ impl Stream {
         match slip {
             Some(Slip::DrainedNeedsEos) => !given,
             Some(Slip::DrainedNeedsNoOutputs) => outputs,
+            Some(Slip::DrainedAfterEosNeedsOutputs) => given != outputs,
             Some(Slip::DrainedLooksAtInputs) => !given && self.input.has_any(),
             Some(Slip::DrainedLooksAtBoth) => !given && (outputs || self.input.has_any()),
             Some(Slip::OutputsOverlooked(state)) => {
@@ -682,6 +701,9 @@ impl Stream {
                 !given && others.any(|output| output.state.name() != state)
             }
             Some(Slip::OnlyQueuedOutputsCount) => !given && self.output.any_queued(),
+            Some(Slip::OutputsSeenBelow(slots)) => {
+                !given && self.output.resources[..slots].iter().any(Option::is_some)
+            }
             Some(Slip::OutputsAskedAtDrain) => !given && self.kept,
             _ => !given && outputs,
         }
@@ -700,10 +722,13 @@ impl Stream {
         }
     }
 
-    /// A step of this kind was taken, for this queue if it names one: only a slip loses the mark.
-    fn lose_mark(&mut self, slip: Option<Slip>, kind: u32, queue_type: u32) {
+    /// A step of this kind was taken, for this queue if it names one: only a slip changes the mark.
+    fn change_mark(&mut self, slip: Option<Slip>, kind: u32, queue_type: u32) {
         if slip == Some(Slip::MarkLostBy(kind, queue_type)) {
             self.give_eos(false);
+        }
+        if slip == Some(Slip::MarkGivenBy(kind, queue_type)) {
+            self.give_eos(true);
         }
     }
 
@@ -761,7 +786,7 @@ impl Stream {
             let created = slip == Some(Slip::FinishedIsCreated);
             buffer.state = if created { State::Created } else { State::Dequeued };
         }
-        self.lose_mark(slip, FINISH, report.queue_type);
+        self.change_mark(slip, FINISH, report.queue_type);
         if self.finish_gives_eos(slip, report) {
             self.give_eos(true);
         }

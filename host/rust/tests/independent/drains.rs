@@ -18,6 +18,8 @@ pub const DRAIN_EDGES: &[(Why, u32)] = &[
     ("drained without EOS, given in another stream", 5),
     ("drained without EOS, outputs destroyed since the drain", OK_NODATA),
     ("drained without EOS, outputs created since the drain", 5),
+    ("drained without EOS, outputs cleared since the drain", 5),
+    ("drained without EOS, outputs destroyed and created since the drain", 5),
     ("drained without EOS, given before the last drained report", 5),
     ("drained without EOS, given before the last clear", 5),
     ("drained after EOS, all outputs Created", OK_NODATA),
@@ -54,6 +56,12 @@ pub const DRAIN_EDGES: &[(Why, u32)] = &[
     ("outputs set after EOS", OK_NODATA),
 ];
 
+/// The same of slots, which no log gets to: there the first slot has an output if any has.
+pub const SLOT_EDGES: &[(Why, u32)] = &[
+    ("drained without EOS, no output in the first slot", 5),
+    ("drained without EOS, an output in the last slot alone", 5),
+];
+
 /// What the records of the table at hand do not hold of drains, by stream number.
 #[derive(Default)]
 pub struct Pasts(BTreeMap<u32, Past>);
@@ -62,6 +70,9 @@ pub struct Pasts(BTreeMap<u32, Past>);
 struct Past {
     /// Whether there were outputs when the owed drain was accepted, if it was on this table.
     outputs_at_drain: Option<bool>,
+    /// Whether the outputs were cleared while the owed drain was, and whether destroyed.
+    outputs_cleared: bool,
+    outputs_destroyed: bool,
     /// The kind of step that answered the drain before, if EOS was given to that.
     given_before: Option<u32>,
 }
@@ -77,7 +88,13 @@ impl Pasts {
         let (kind, queue_type) = kind_and_queue(act);
         let past = self.0.entry(stream.number).or_default();
         match (kind, queue_type) {
-            (STREAM_DRAIN, _) => past.outputs_at_drain = Some(stream.output.has_any()),
+            (STREAM_DRAIN, _) => {
+                past.outputs_at_drain = Some(stream.output.has_any());
+                past.outputs_cleared = false;
+                past.outputs_destroyed = false;
+            }
+            (QUEUE_CLEAR, OUTPUT) => past.outputs_cleared = stream.drain.is_some(),
+            (RESOURCE_DESTROY_ALL, OUTPUT) => past.outputs_destroyed = stream.drain.is_some(),
             (DRAINED, _) | (QUEUE_CLEAR, INPUT) if stream.drain.is_some() => {
                 past.given_before = stream.eos_given().then_some(kind);
             }
@@ -153,12 +170,28 @@ impl Draining<'_> {
                 had_outputs == Some(false) && outputs,
             ),
             (
+                "drained without EOS, outputs cleared since the drain",
+                self.past.outputs_cleared && outputs,
+            ),
+            (
+                "drained without EOS, outputs destroyed and created since the drain",
+                self.past.outputs_destroyed && outputs,
+            ),
+            (
                 "drained without EOS, given before the last drained report",
                 before == Some(DRAINED) && outputs,
             ),
             (
                 "drained without EOS, given before the last clear",
                 before == Some(QUEUE_CLEAR) && outputs,
+            ),
+            (
+                "drained without EOS, no output in the first slot",
+                outputs && output.resources[0].is_none(),
+            ),
+            (
+                "drained without EOS, an output in the last slot alone",
+                output.resources.iter().position(Option::is_some) == Some(SLOTS - 1),
             ),
         ]
     }

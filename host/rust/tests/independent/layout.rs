@@ -12,8 +12,6 @@ pub const SPENT_AT: usize = 4096;
 pub const UNUSED_AT: usize = 4128;
 /// Where the drain's word stands in a block, its ticket behind it.
 pub const DRAIN_AT: usize = 3;
-/// Added to the drain's word where a slip remembers something, so that it gets from step to step.
-const KEPT: u32 = 4;
 /// Where a queue starts in a block.
 pub const INPUT_AT: usize = 8;
 pub const OUTPUT_AT: usize = 92;
@@ -175,9 +173,7 @@ fn read_place(block: &[u32], slip: Option<Slip>) -> Result<Option<Stream>, Broke
         return Ok(None);
     }
     let coded_format = block[2];
-    let kept = slip.is_some_and(Slip::remembers) && block[DRAIN_AT] & KEPT != 0;
-    let drain_word = if kept { block[DRAIN_AT] - KEPT } else { block[DRAIN_AT] };
-    let drain = read_drain(drain_word, block[DRAIN_AT + 1], slip)?;
+    let drain = read_drain(block[DRAIN_AT], block[DRAIN_AT + 1], slip)?;
     ask(all_zero(&block[5..INPUT_AT]), Broken::Head, slip)?;
     ask(all_zero(&block[TAIL_AT..]), Broken::Tail, slip)?;
     ask((0x1000..=0x1005).contains(&coded_format), Broken::Format, slip)?;
@@ -187,7 +183,7 @@ fn read_place(block: &[u32], slip: Option<Slip>) -> Result<Option<Stream>, Broke
         drain,
         input: read_queue(&block[INPUT_AT..OUTPUT_AT], QueueType::Input, coded_format, slip)?,
         output: read_queue(&block[OUTPUT_AT..TAIL_AT], QueueType::Output, coded_format, slip)?,
-        kept,
+        kept: false,
     }))
 }
 
@@ -291,9 +287,6 @@ fn write_place(stream: &Stream, block: &mut [u32], slip: Option<Slip>) {
     block[1] = stream.number;
     block[2] = stream.coded_format;
     block[DRAIN_AT..DRAIN_AT + 2].copy_from_slice(&drain_words(stream.drain, slip));
-    if stream.kept {
-        block[DRAIN_AT] += KEPT;
-    }
     block[5..INPUT_AT].fill(0);
     write_queue(&stream.input, &mut block[INPUT_AT..OUTPUT_AT]);
     write_queue(&stream.output, &mut block[OUTPUT_AT..TAIL_AT]);

@@ -1150,8 +1150,8 @@ impl Generator {
         self.plan.splice(0..0, [Act::Drained { stream: old }, report(new, last), late]);
     }
 
-    /// A stream without resources gets a few, in any state, and is drained twice. Amid its drains come
-    /// EOS, late and once too often, drained reports, and all else that may touch them.
+    /// A stream loses its resources and gets a few others, in any state, and is drained twice. Amid its
+    /// drains come EOS, late and once too often, drained reports, and all else that may touch them.
     fn plan_drain(&mut self, device: &Device) {
         let live = self.live(device).map(|stream| stream.number);
         let number = live.unwrap_or_else(|| self.unspent(device));
@@ -1274,6 +1274,9 @@ impl Generator {
                     *stream.queue(queue_type) =
                         self.lent_queue(queue_type, coded_format, resources, queued);
                 }
+                if self.rng.percent(20) {
+                    self.output_in_last_slot(&mut stream, queued);
+                }
                 *place = Some(stream);
             }
         }
@@ -1286,6 +1289,26 @@ impl Generator {
             return None;
         }
         Some(Drain { ticket: self.ticket(), eos_given: self.rng.percent(50) })
+    }
+
+    /// Leaves a stream one output, in the last slot, and a drain that waits for nothing but EOS.
+    fn output_in_last_slot(&mut self, stream: &mut Stream, queued: usize) {
+        stream.drain = Some(Drain { ticket: self.ticket(), eos_given: false });
+        for input in stream.input.resources.iter_mut().flatten() {
+            input.state = self.lent_state(0);
+        }
+        let (number, state) = (self.rng.pick(&RESOURCES), self.lent_state(queued));
+        stream.output.resources = [None; SLOTS];
+        stream.output.resources[SLOTS - 1] = Some(Resource { number, state });
+    }
+
+    /// The state of a resource, Queued with this chance.
+    fn lent_state(&mut self, queued: usize) -> State {
+        if self.rng.percent(queued) {
+            State::Queued { ticket: self.ticket(), timestamp: self.timestamp() }
+        } else {
+            self.rng.pick(&[State::Created, State::Dequeued])
+        }
     }
 
     fn lent_queue(
@@ -1304,12 +1327,7 @@ impl Generator {
         };
         for (slot, number) in queue.resources.iter_mut().zip(numbers) {
             if self.rng.percent(resources) {
-                let state = if self.rng.percent(queued) {
-                    State::Queued { ticket: self.ticket(), timestamp: self.timestamp() }
-                } else {
-                    self.rng.pick(&[State::Created, State::Dequeued])
-                };
-                *slot = Some(Resource { number, state });
+                *slot = Some(Resource { number, state: self.lent_state(queued) });
             }
         }
         queue

@@ -123,6 +123,8 @@ pub enum Slip {
     DrainedNeedsEos,
     /// A drained report is refused while there are outputs, EOS given or not.
     DrainedNeedsNoOutputs,
+    /// After EOS, a drained report is refused where there are no outputs left.
+    DrainedAfterEosNeedsOutputs,
     /// Without EOS, a drained report is refused while there are inputs, whatever the outputs.
     DrainedLooksAtInputs,
     /// Without EOS, a drained report is refused while there are resources of either queue.
@@ -131,6 +133,8 @@ pub enum Slip {
     OutputsOverlooked(Why),
     /// To a drained report, only Queued outputs are outputs.
     OnlyQueuedOutputsCount,
+    /// To a drained report, only the outputs in so many slots, the first ones, are outputs.
+    OutputsSeenBelow(usize),
     /// To a drained report, the outputs of all streams are its stream's.
     OutputsOfAnyStream,
     /// Whether there are outputs is asked when the drain comes and not when it is reported.
@@ -161,6 +165,10 @@ pub enum Slip {
     RefusedDrainLosesMark,
     /// This kind of step, on this queue, drops the mark.
     MarkLostBy(u32, u32),
+    /// This kind of step, on this queue, gives EOS.
+    MarkGivenBy(u32, u32),
+    /// Where this kind of step answers a drain, or begins one, the marks of all streams are dropped.
+    AnswerDropsAllMarks(u32),
     /// Where this kind of step answers a drain, the mark is kept for the next drain.
     MarkOutlives(u32),
     /// A new drain has the mark.
@@ -348,9 +356,16 @@ impl Slip {
         }
     }
 
-    /// Whether it remembers of a stream what its record does not hold.
+    /// Whether it remembers of a stream what its record does not hold. A table has no word for that: a
+    /// bit put there to keep it would be caught at once and show nothing of the slip. So these are
+    /// left to the logs, where the device goes on from step to step.
     pub fn remembers(self) -> bool {
-        matches!(self, Slip::OutputsAskedAtDrain | Slip::MarkOutlives(_) | Slip::RefusedEosGiven(_))
+        matches!(
+            self,
+            Slip::OutputsAskedAtDrain
+                | Slip::MarkOutlives(_)
+                | Slip::RefusedEosGiven("EOS with no drain owed")
+        )
     }
 
     /// Whether a report that is refused changes the records.
@@ -415,12 +430,15 @@ const NAMED: &[Slip] = &[
     Slip::DefaultPlaneSizes,
     Slip::DrainedNeedsEos,
     Slip::DrainedNeedsNoOutputs,
+    Slip::DrainedAfterEosNeedsOutputs,
     Slip::DrainedLooksAtInputs,
     Slip::DrainedLooksAtBoth,
     Slip::OutputsOverlooked("Created"),
     Slip::OutputsOverlooked("Queued"),
     Slip::OutputsOverlooked("Dequeued"),
     Slip::OnlyQueuedOutputsCount,
+    Slip::OutputsSeenBelow(1),
+    Slip::OutputsSeenBelow(SLOTS - 1),
     Slip::OutputsOfAnyStream,
     Slip::OutputsAskedAtDrain,
     Slip::EosOfAnyStream(FINISH),
@@ -454,6 +472,12 @@ const NAMED: &[Slip] = &[
     Slip::MarkLostBy(SET_PARAMS, OUTPUT),
     Slip::MarkLostBy(FINISH, INPUT),
     Slip::MarkLostBy(FINISH, OUTPUT),
+    Slip::MarkGivenBy(RESOURCE_DESTROY_ALL, OUTPUT),
+    Slip::MarkGivenBy(QUEUE_CLEAR, OUTPUT),
+    Slip::AnswerDropsAllMarks(STREAM_DESTROY),
+    Slip::AnswerDropsAllMarks(STREAM_DRAIN),
+    Slip::AnswerDropsAllMarks(QUEUE_CLEAR),
+    Slip::AnswerDropsAllMarks(DRAINED),
     Slip::MarkOutlives(QUEUE_CLEAR),
     Slip::MarkOutlives(DRAINED),
     Slip::NewDrainMarked,
