@@ -109,7 +109,7 @@ module _ (flags : ℕ) (q : QueueType) (b : Stream) where
       of true false true given h = h
       of true false false given h = refl
 
--- it is noted
+-- EOS is noted where the flags have it
 module _ (flags : ℕ) (b : Stream) where
   pub eos-noted : 2 ≤ flags → withEos b ≡ noteEos flags b
   eos-noted h = rw (le-leb 2 flags h)
@@ -259,7 +259,7 @@ module _ (n : ℕ) (q : QueueType) (b : Stream) where
   pub left-output : q ≡ output → placeWords (occupied n b) ≡ placeWords (occupied n (withoutEnded q b))
   left-output e = rw e
 
--- and its queues stay
+-- the drain that a clear ends is no part of a queue
 pub queue-kept : (o q : QueueType) (b : Stream) → queueOf o (withoutEnded q b) ≡ queueOf o b
 queue-kept input input b = refl
 queue-kept output input b = refl

@@ -29,7 +29,7 @@ use Rattle.model.proofs.LedgerView.{View, viewOf, isTo}
 use Rattle.model.proofs.Fits.{acceptedReply, holding}
 use Rattle.model.proofs.Rules.{named-number}
 use Rattle.model.proofs.Seen.{own-record, other-record}
-use Rattle.model.proofs.Origins.{command-cases, live-cases, finish-cases, Over, drained-cases, step-cases}
+use Rattle.model.proofs.Origins.{command-cases, live-cases, finish-cases, DrainedTaken, drained-cases, step-cases}
 use Rattle.model.proofs.WellFormed.{well-fresh}
 use Rattle.model.proofs.ReadBack.{read-back}
 use Rattle.model.proofs.Condition3.{accepted-is, step-stream-is, Agree, agree-fresh, agree-step}
@@ -302,7 +302,7 @@ came n k d l (s ∷ ss) c g m is =
 
 -- one that is accepted found its drain over
 abbrev FoundOver : Option Stream → Type 0
-FoundOver self = (b : Stream) × (t : ℕ) × Over self b t
+FoundOver self = (b : Stream) × (t : ℕ) × DrainedTaken self b t
 
 drained-over : (n : ℕ) (d : Device) (s : Step) → wellFormed d ≡ true → goodAct (s .act) ≡ true → s .act ≡ drained n → accepted (eventOf s (stepOn d s)) ≡ true
     → FoundOver (recordOf n (d .places))

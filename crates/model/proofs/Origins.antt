@@ -37,14 +37,14 @@ eos-ticket b = of (b .draining)
     of (some d) = refl
 
 -- a finish report that is taken: its stream, its queue and its Queued buffer
-pub record Taken (self : Option Stream) (qt r flags : ℕ) (b : Stream) (q : QueueType) (i : Buffer) : Type 0 where
+pub record FinishTaken (self : Option Stream) (qt r flags : ℕ) (b : Stream) (q : QueueType) (i : Buffer) : Type 0 where
   pub self-is : self ≡ some b
   pub named-is : queueNamed qt ≡ some q
   pub waits-is : bufferOf r (queuedIn (queueOf q b .slots)) ≡ some i
   pub eos-fits : badEos flags q b ≡ false
 
 -- a drained report that is taken
-pub record Over (self : Option Stream) (b : Stream) (t : ℕ) : Type 0 where
+pub record DrainedTaken (self : Option Stream) (b : Stream) (t : ℕ) : Type 0 where
   pub self-is : self ≡ some b
   pub drain-is : drainTicket b ≡ some t
   pub over-is : drainOver b ≡ true
@@ -98,7 +98,7 @@ module _ (P : Reply → Type 0) where
 
   -- refusal 5 or 6, or the answer to a Queued buffer
   pub finish-cases : (n qt r flags ts : ℕ) (self : Option Stream) → P (refuse 5 self) → P (refuse 6 self)
-      → ((b : Stream) (q : QueueType) (i : Buffer) → Taken self qt r flags b q i
+      → ((b : Stream) (q : QueueType) (i : Buffer) → FinishTaken self qt r flags b q i
       → P (reply (record { ticket = i .ticket; stream = n; response = bufferDone q (timestampOf q i ts) flags } ∷ []) (some (finishLeaves r flags b q))))
       → P (onFinish n qt r flags ts self)
   unfolding onFinish
@@ -120,7 +120,7 @@ module _ (P : Reply → Type 0) where
 
   -- refusal 5, or the answer to a pending drain
   pub drained-cases : (n : ℕ) (self : Option Stream) → P (refuse 5 self)
-      → ((b : Stream) (t : ℕ) → Over self b t → P (reply (record { ticket = t; stream = n; response = drainDone } ∷ []) (some (withDrain none b))))
+      → ((b : Stream) (t : ℕ) → DrainedTaken self b t → P (reply (record { ticket = t; stream = n; response = drainDone } ∷ []) (some (withDrain none b))))
       → P (onDrained n self)
   unfolding onDrained
   drained-cases n none five h = five

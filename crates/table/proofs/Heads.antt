@@ -1,6 +1,6 @@
 -- What the first words of a block say, and a block with other words there.
 use mathlib.Core.Path.{_≡_, refl, sym, ap, ap₂, _∙_}
-use mathlib.Core.Bool.{Bool, true, false, cond}
+use mathlib.Core.Bool.{Bool, true, false}
 use mathlib.Core.Option.{Option, none, some, Option·map}
 use mathlib.Core.List.{List, _∷_, _++_, append-assoc}
 use Prim.Native.Nat.{ℕ}
@@ -15,7 +15,7 @@ use Rattle.laws.proofs.Parts.{zero-length, zero-at, zeros-append, part-mid, wit
 use Rattle.model.specs.Device.{PendingDrain, giveEos, ticketOf, eosGivenFor, Stream, Place, vacant, occupied, newQueue, newStream, drainTicket, withDrain, eosGivenIn, withEos}
 use Rattle.queue.specs.Words.{queueWords}
 use Rattle.queue.proofs.Records.{queue-length}
-use Rattle.table.specs.Blocks.{drainWords, headWords, placeWords}
+use Rattle.table.specs.Blocks.{drainMark, drainWords, headWords, placeWords}
 use Rattle.table.specs.Search.{isVacant, isStream, headIs}
 
 -- Live or vacant, and the number
@@ -50,7 +50,7 @@ no-drain-words : (d : Option PendingDrain) (z r : List ℕ) → getD (drainWords
 no-drain-words none z r e = refl
 no-drain-words (some d) z r e = absurd (of (d .eosGiven) e)
   where
-    of : (given : Bool) → _≡_ {A = ℕ} (cond given 2 1) 0 → ⊥
+    of : (given : Bool) → _≡_ {A = ℕ} (drainMark given) 0 → ⊥
     of true e = eqb-false 2 0 refl e
     of false e = eqb-false 1 0 refl e
 
@@ -62,7 +62,7 @@ given-words : (d : Option PendingDrain) (z r : List ℕ) → eqb (getD (drainWor
 given-words none z r = refl
 given-words (some d) z r = of (d .eosGiven)
   where
-    of : (given : Bool) → eqb (cond given 2 1) 2 ≡ given
+    of : (given : Bool) → eqb (drainMark given) 2 ≡ given
     of true = refl
     of false = refl
 

@@ -1,6 +1,6 @@
 -- Laws of the words of a place and of a device: their lengths, the parts of a place, one place among the blocks, and that decoding undoes encoding.
 use mathlib.Core.Path.{_≡_, refl, sym, ap, ap₂, _∙_}
-use mathlib.Core.Bool.{Bool, true, false, cond}
+use mathlib.Core.Bool.{Bool, true, false}
 use mathlib.Core.Option.{Option, none, some}
 use mathlib.Core.List.{List, _++_, append-assoc}
 use Prim.Native.Nat.{ℕ, _+_, _*_, _-_, _<_, _≤_}
@@ -20,7 +20,7 @@ use Rattle.model.specs.Device.{QueueType, input, output, Queue, PendingDrain, S
 use Rattle.queue.specs.Words.{queueWords, decodeQueue}
 use Rattle.queue.proofs.Records.{queue-length, decode-queue}
 use Rattle.table.specs.Spent.{spentSize, spentWords, decodeSpent}
-use Rattle.table.specs.Blocks.{queueStart, drainWords, headWords, placeWords, blocks, blocksSize, unusedSize, behind, encode, drainIn, decodePlace, placesIn, decode}
+use Rattle.table.specs.Blocks.{queueStart, drainMark, drainWords, headWords, placeWords, blocks, blocksSize, unusedSize, behind, encode, drainIn, decodePlace, placesIn, decode}
 use Rattle.table.specs.Search.{placeAt, hasAllSlots}
 use Rattle.table.proofs.Bits.{spent-length, decode-spent}
 
@@ -181,7 +181,7 @@ drain-back : (d : Option PendingDrain) (z r : List ℕ) → drainIn (getD (drain
 drain-back none z r = refl
 drain-back (some d) z r = of (d .eosGiven)
   where
-    of : (given : Bool) → drainIn (cond given 2 1) (d .ticket) ≡ some (record { ticket = d .ticket; eosGiven = given })
+    of : (given : Bool) → drainIn (drainMark given) (d .ticket) ≡ some (record { ticket = d .ticket; eosGiven = given })
     of true = refl
     of false = refl
 

@@ -1,7 +1,7 @@
 -- The statements of specs/Promises, proved: the layout is lawful, valid is exactly the tables of well-formed devices, and condition 3 and the
 -- model's other promises hold over its tables.
 use mathlib.Core.Path.{_≡_, refl, sym, ap, ap₂, _∙_}
-use mathlib.Core.Bool.{Bool, true, false, cond, _&&_}
+use mathlib.Core.Bool.{Bool, true, false, _&&_}
 use mathlib.Core.Option.{Option, none, some}
 use mathlib.Core.List.{List, [], _++_}
 use Prim.Native.Nat.{ℕ, zero, suc, _+_, _*_, _/_, _%_, _^_, _<_}
@@ -33,7 +33,7 @@ use Rattle.model.proofs.LastPicture.{no-drain-without-last}
 use Rattle.model.proofs.Unchanged.{refusal-changes-nothing, error-changes-nothing, keeps-rest, stays-valid, writes-at-most}
 use Rattle.queue.specs.Words.{slotWords, queueWords}
 use Rattle.table.specs.Spent.{wordNumbers, spentSize, bitsWord, spentWords}
-use Rattle.table.specs.Blocks.{drainWords, headWords, placeWords, blocks, blocksSize, unusedSize, behind, encode, decode, layout}
+use Rattle.table.specs.Blocks.{drainMark, drainWords, headWords, placeWords, blocks, blocksSize, unusedSize, behind, encode, decode, layout}
 use Rattle.table.specs.Search.{hasAllSlots}
 use Rattle.table.specs.Promises.{MeetsLaws, ValidExactly, Narrow, SpentBits, FreshIsZero, ConditionThree, TablePromises}
 use Rattle.table.proofs.Bits.{spent-narrow, numberBit, bit-spent}
@@ -139,7 +139,7 @@ unfolding u32
 narrow-drain none h = narrow-zeros 3
 narrow-drain (some d) h = both (of (d .eosGiven)) (both h (narrow-zeros 3))
   where
-    of : (given : Bool) → u32 (cond given 2 1) ≡ true
+    of : (given : Bool) → u32 (drainMark given) ≡ true
     of true = refl
     of false = refl
 

@@ -1,6 +1,6 @@
 -- The words of a stream place and of the whole device table, the records that words stand for, and with both the table's layout.
 use Prim.Native.Nat.{ℕ}
-use mathlib.Core.Bool.{cond}
+use mathlib.Core.Bool.{Bool, true, false, cond}
 use mathlib.Core.Option.{Option, none, some}
 use mathlib.Core.List.{List, [], _∷_, _++_}
 use lib.ListN.{take, getD}
@@ -26,10 +26,15 @@ queueStart output = 92
 abbrev pub spareSize : ℕ
 spareSize = 336
 
--- the words of a drain pending or not: 1 and its ticket, or 2 and its ticket where EOS was given, or zeros
+-- the first word of a pending drain: 1, or 2 where EOS was given
+abbrev pub drainMark : Bool → ℕ
+drainMark false = 1
+drainMark true = 2
+
+-- the words of a drain pending or not: its mark and its ticket, or zeros
 abbrev pub drainWords : Option PendingDrain → List ℕ
 drainWords none = 0 ∷ 0 ∷ []
-drainWords (some d) = cond (d .eosGiven) 2 1 ∷ d .ticket ∷ []
+drainWords (some d) = drainMark (d .eosGiven) ∷ d .ticket ∷ []
 
 -- the first eight words of a live stream's block: live, number, coded format, drain, three without use
 unfoldable pub headWords : ℕ → ℕ → Option PendingDrain → List ℕ

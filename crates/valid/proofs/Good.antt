@@ -1,6 +1,6 @@
 -- The rules of a place on words of 32 bits: what is left to test once each word is one.
 use mathlib.Core.Path.{_≡_, refl, sym, _∙_}
-use mathlib.Core.Bool.{Bool, true, false, cond, _&&_}
+use mathlib.Core.Bool.{Bool, true, false, _&&_}
 use mathlib.Core.Option.{Option, none, some}
 use mathlib.Core.List.{List, [], _∷_, _++_}
 use Prim.Native.Nat.{ℕ, _/_, _%_, _^_, _<_}
@@ -17,7 +17,7 @@ use Rattle.model.specs.Device.{input, output, created, queued, dequeued, Slot, 
 use Rattle.model.specs.Commands.{goodExtent}
 use Rattle.model.specs.WellFormed.{u32, u64, goodSlot, distinctSlots, goodQueue, goodDrain, goodPlace}
 use Rattle.queue.specs.Words.{slotWords, queueWords}
-use Rattle.table.specs.Blocks.{drainWords, headWords, placeWords}
+use Rattle.table.specs.Blocks.{drainMark, drainWords, headWords, placeWords}
 use Rattle.table.specs.Search.{hasAllSlots}
 use Rattle.table.proofs.Records.{sized-queue}
 
@@ -76,7 +76,7 @@ wide-queue q sixteen h =
 
 wide-drain : (d : Option PendingDrain) → allOf u32 (drainWords d ++ zeros 3) ≡ true → goodDrain (ticketOf d) ≡ true
 wide-drain none h = refl
-wide-drain (some d) h = and-left (u32 (d .ticket)) _ (and-right (u32 (cond (d .eosGiven) 2 1)) _ h)
+wide-drain (some d) h = and-left (u32 (d .ticket)) _ (and-right (u32 (drainMark (d .eosGiven))) _ h)
 
 pub wide-place : (n : ℕ) (b : Stream) → hasAllSlots (occupied n b) ≡ true → allOf u32 (placeWords (occupied n b)) ≡ true
     → goodPlace (occupied n b) ≡ within (b .format) firstCoded lastCoded && (queueRules (b .inputs) && queueRules (b .outputs))

@@ -1,6 +1,6 @@
 -- The test whether words are those of the device that they stand for, block by block and part by part.
 use mathlib.Core.Path.{_≡_, refl, sym, ap, ap₂, _∙_, subst}
-use mathlib.Core.Bool.{Bool, true, false, cond, _&&_, and-true, and-false, and-assoc}
+use mathlib.Core.Bool.{Bool, true, false, _&&_, and-true, and-false, and-assoc}
 use mathlib.Core.List.{List, [], _∷_, _++_}
 use Prim.Native.Nat.{ℕ, _+_, _*_, _^_, _<_, _≤_}
 use native.Mathlib.Omega.{arith}
@@ -22,7 +22,7 @@ use Rattle.model.specs.Tables.{valid}
 use Rattle.queue.specs.Words.{queueWords, decodeQueue}
 use Rattle.queue.proofs.Records.{queue-length, decoded-slots}
 use Rattle.table.specs.Spent.{spentSize, spentWords, decodeSpent}
-use Rattle.table.specs.Blocks.{placeSize, drainIn, headWords, placeWords, blocks, blocksSize, unusedSize, behind, encode, decodePlace, placesIn, decode, layout}
+use Rattle.table.specs.Blocks.{placeSize, drainMark, drainIn, headWords, placeWords, blocks, blocksSize, unusedSize, behind, encode, decodePlace, placesIn, decode, layout}
 use Rattle.table.specs.Search.{placeAt, hasAllSlots}
 use Rattle.valid.specs.Rules.{headStands, placeStands, placeSpent, placeValid, numbersFrom, blocksValid}
 use Rattle.table.proofs.Bits.{spent-length, all-words, spent-decoded, spent-again}
@@ -119,7 +119,7 @@ eight P g (a ∷ n ∷ f ∷ o ∷ t ∷ x ∷ y ∷ z ∷ []) e = g a n f o t x
 eight P g (a ∷ n ∷ f ∷ o ∷ t ∷ x ∷ y ∷ z ∷ w ∷ r) e = absurd (omega arith)
 
 -- 1 and 2 are the drain words of a pending drain
-mark-stands : (o : ℕ) → (o ≡ 0 → ⊥) → o ≤ 2 → eqb o (cond (eqb o 2) 2 1) ≡ true
+mark-stands : (o : ℕ) → (o ≡ 0 → ⊥) → o ≤ 2 → eqb o (drainMark (eqb o 2)) ≡ true
 mark-stands o h l = decide (eqb o 2) (λ e. simp e) (λ e. simp e (eq-eqb o 1 (omega (arith, h, l, eqb-false o 2 e))))
 
 module _ (h : List ℕ) (long : length h ≡ 8) where
