@@ -243,27 +243,24 @@ module _ {d e : List ℕ} {at r : ℕ} (n : ℕ) where
   pub wrote-drain : (t : ℕ) (x : Option ℕ) → some t ≡ x → Wrote d e at r (plainBytes t (responseType drainDone) n) → Wrote d e at r (bytesOf (drainAnswers n x))
   wrote-drain t x is w = subst (λ (o : Option ℕ). Wrote d e at r (bytesOf (drainAnswers n o))) is (wrote-plain t n drainDone refl w)
 
-  pub wrote-ended : (q : QueueType) (b : Stream) → q ≡ input → Wrote d e at r (bytesOf (drainAnswers n (drainTicket b))) → Wrote d e at r (bytesOf (drainAnswers n (drainEnded q b)))
-  wrote-ended q b is w = subst (λ (x : QueueType). Wrote d e at r (bytesOf (drainAnswers n (drainEnded x b)))) (sym is) w
+  pub wrote-ended : (ends ends′ : Bool) (b : Stream) → ends ≡ ends′ → Wrote d e at r (bytesOf (drainAnswers n (drainEnded ends b))) → Wrote d e at r (bytesOf (drainAnswers n (drainEnded ends′ b)))
+  wrote-ended ends ends′ b is w = subst (λ (x : Bool). Wrote d e at r (bytesOf (drainAnswers n (drainEnded x b)))) is w
 
 pub wrote-no-drain : (d : List ℕ) (at n : ℕ) (x : Option ℕ) → none ≡ x → Wrote d d at at (bytesOf (drainAnswers n x))
 wrote-no-drain d at n x is = subst (λ (o : Option ℕ). Wrote d d at at (bytesOf (drainAnswers n o))) is (wrote-none d at)
 
-pub wrote-unended : (d : List ℕ) (at n : ℕ) (q : QueueType) (b : Stream) → q ≡ output → Wrote d d at at (bytesOf (drainAnswers n (drainEnded q b)))
-wrote-unended d at n q b is = subst (λ (x : QueueType). Wrote d d at at (bytesOf (drainAnswers n (drainEnded x b)))) (sym is) (wrote-none d at)
+module _ (n : ℕ) (ends : Bool) (b : Stream) where
+  pub drain-ended : ends ≡ true → placeWords (occupied n (withDrain none b)) ≡ placeWords (occupied n (withoutEnded ends b))
+  drain-ended e = rw e
 
-module _ (n : ℕ) (q : QueueType) (b : Stream) where
-  pub left-input : q ≡ input → placeWords (occupied n (withDrain none b)) ≡ placeWords (occupied n (withoutEnded q b))
-  left-input e = rw e
+  pub drain-left : ends ≡ false → placeWords (occupied n b) ≡ placeWords (occupied n (withoutEnded ends b))
+  drain-left e = rw e
 
-  pub left-output : q ≡ output → placeWords (occupied n b) ≡ placeWords (occupied n (withoutEnded q b))
-  left-output e = rw e
-
--- the drain that a clear ends is no part of a queue
-pub queue-kept : (o q : QueueType) (b : Stream) → queueOf o (withoutEnded q b) ≡ queueOf o b
-queue-kept input input b = refl
-queue-kept output input b = refl
-queue-kept o output b = refl
+-- a drain that ends is no part of a queue
+pub queue-kept : (o : QueueType) (ends : Bool) (b : Stream) → queueOf o (withoutEnded ends b) ≡ queueOf o b
+queue-kept input true b = refl
+queue-kept output true b = refl
+queue-kept o false b = refl
 
 module _ (n t : ℕ) (f : List ℕ) (b : Stream) where
   pub clear-is : (q : QueueType) → onClear (requestTo n t f b) b q ≡ reply (clearAnswers n t q b) (some (clearLeaves q b))

@@ -6,7 +6,7 @@ use mathlib.Core.List.{List, [], _∷_, _++_}
 use Rattle.model.specs.Device.{QueueType, input, output, Stream, queueOf, withQueue, drainTicket, buffers}
 use Rattle.model.specs.Answers.{success, Answer}
 use Rattle.model.specs.Replies.{Reply}
-use Rattle.model.specs.Commands.{stoppedAnswers, drainAnswers, drainEnded, withoutEnded, cleared}
+use Rattle.model.specs.Commands.{stoppedAnswers, drainEnded, withoutEnded, drainAnswers, isInput, cleared}
 use Rattle.answer.specs.Answer.{answerTo}
 use Rattle.stream.specs.Replied.{Replied}
 
@@ -17,11 +17,11 @@ pub record Done (n : ℕ) (v : Reply) (block room room′ : List ℕ) (refusal w
 
 -- the answers of a clear under the ticket t
 abbrev pub clearAnswers : ℕ → ℕ → QueueType → Stream → List Answer
-clearAnswers n t q b = stoppedAnswers n q (buffers q b) ++ (drainAnswers n (drainEnded q b) ++ answerTo t n success ∷ [])
+clearAnswers n t q b = stoppedAnswers n q (buffers q b) ++ (drainAnswers n (drainEnded (isInput q) b) ++ answerTo t n success ∷ [])
 
 -- the record that it leaves
 abbrev pub clearLeaves : QueueType → Stream → Stream
-clearLeaves q b = withQueue q (cleared (queueOf q b)) (withoutEnded q b)
+clearLeaves q b = withQueue q (cleared (queueOf q b)) (withoutEnded (isInput q) b)
 
 -- the answers of a destroy under the ticket t
 abbrev pub destroyAnswers : ℕ → ℕ → Stream → List Answer

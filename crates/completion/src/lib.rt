@@ -1,4 +1,5 @@
 // What completes pending answers on the block of one live stream: the back end's reports, a clear, a destroy.
+mod drains;
 mod reports;
 mod stops;
 

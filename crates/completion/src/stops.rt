@@ -5,9 +5,9 @@ ghost use mathlib.Core.List.{List, [], _∷_};
 ghost use Prim.Native.Nat.{ℕ, _+_, _<_, _≤_};
 ghost use lib.ListN.{length};
 ghost use Rattle.laws.specs.Stores.{Wrote};
-ghost use Rattle.model.specs.Device.{QueueType as Meant, Queue, Stream, occupied, drainTicket, Buffer, queuedIn, byResource, buffers};
+ghost use Rattle.model.specs.Device.{QueueType as Meant, Queue, Stream, occupied, Buffer, queuedIn, byResource, buffers};
 ghost use Rattle.model.specs.Answers.{bytesOf};
-ghost use Rattle.model.specs.Commands.{stoppedAnswers, drainAnswers, onDestroy, drainEnded, withoutEnded, onClear};
+ghost use Rattle.model.specs.Commands.{stoppedAnswers, onDestroy, onClear};
 ghost use Rattle.model.specs.WellFormed.{distinctSlots};
 ghost use Rattle.queue.specs.Words.{queueWords};
 ghost use Rattle.queue.specs.Search.{slotAt, ticketIn, timestampIn};
@@ -15,13 +15,15 @@ ghost use Rattle.table.specs.Blocks.{placeWords};
 ghost use Rattle.protocol.specs.QueueTypes.{queueTypeOf};
 ghost use Rattle.stream.specs.Replied.{BlockOf, requestTo, Replied};
 ghost use Rattle.completion.specs.Done.{clearAnswers, destroyAnswers, clearLeaves};
+use crate::drains::drain_answer;
+use crate::drains::end_drain;
+use crate::drains::ended_answer;
 use protocol::ERR;
 use protocol::OK;
 use protocol::QueueType;
 use queue::Found;
 use queue::QUEUE_WORDS;
 use queue::SLOTS;
-use table::DrainState;
 
 // 0x0107 clear: the Queued buffers of a queue and, for input, a pending drain are answered, then the command; then the changes are made.
 pub fn clear(block: &mut [u32], stream: u32, ticket: u32, q: QueueType, room: &mut [u8]) -> usize
@@ -45,7 +47,8 @@ fn clear_answers(
     ensures { λ r. ⌜ ((n : ℕ) (b : Stream) → BlockOf n (now (block .entry)) b → Wrote (now (room .entry)) (now (room .exit)) 0 r (bytesOf (clearAnswers stream ticket (queueTypeOf queue) b))) ⌝ }
 {
     let stopped = stop_queue(block, queue, 0, stream, room);
-    let ended = ended_answer(block, queue, stopped, stream, room);
+    let ends = protocol::is_input(queue);
+    let ended = ended_answer(block, ends, stopped, stream, room);
     answer::put_plain(room, ended, ticket, OK, stream)
 }
 
@@ -54,20 +57,10 @@ fn clear_words(block: &mut [u32], queue: QueueType)
     requires { ⌜ length (now block) ≡ 512 ⌝ }
     ensures { λ _. ⌜ ((n : ℕ) (b : Stream) → BlockOf n (now (block .entry)) b → now (block .exit) ≡ placeWords (occupied n (clearLeaves (queueTypeOf queue) b))) ⌝ }
 {
-    end_drain(block, queue);
+    let ends = protocol::is_input(queue);
+    end_drain(block, ends);
     let at = table::queue_start(queue);
     queue::stop_all(&mut block[at..at + QUEUE_WORDS]);
-}
-
-// Drops the drain that a clear of the queue ends.
-fn end_drain(block: &mut [u32], queue: QueueType)
-    requires { ⌜ length (now block) ≡ 512 ⌝ }
-    ensures { λ _. ⌜ ((n : ℕ) (b : Stream) → now (block .entry) ≡ placeWords (occupied n b) → now (block .exit) ≡ placeWords (occupied n (withoutEnded (queueTypeOf queue) b))) ⌝ }
-{
-    let QueueType::Input = queue else {
-        return;
-    };
-    table::drop_drain(block);
 }
 
 // 0x0102 destroy: all that waits is answered, then the command, and the block becomes vacant.
@@ -131,29 +124,4 @@ fn stop_answer(q: &[u32], k: usize, at: usize, stream: u32, room: &mut [u8]) -> 
     let ticket = queue::slot_ticket(q, k);
     let timestamp = queue::slot_timestamp(q, k);
     answer::put_buffer(room, at, ticket, stream, timestamp, ERR)
-}
-
-// Answers the drain that a clear of the queue ends, if it ends one.
-fn ended_answer(block: &[u32], queue: QueueType, at: usize, stream: u32, room: &mut [u8]) -> usize
-    requires { ⌜ (length (now block) ≡ 512) × (at + 16 ≤ length (now room)) ⌝ }
-    ensures bound { λ r. ⌜ r ≤ at + 16 ⌝ }
-    ensures written { λ r. ⌜ ((n : ℕ) (b : Stream) → BlockOf n (now (block .entry)) b → Wrote (now (room .entry)) (now (room .exit)) at r (bytesOf (drainAnswers stream (drainEnded (queueTypeOf queue) b)))) ⌝ }
-{
-    let QueueType::Input = queue else {
-        return at;
-    };
-    drain_answer(block, at, stream, room)
-}
-
-// Answers the drain that is pending, if one is.
-fn drain_answer(block: &[u32], at: usize, stream: u32, room: &mut [u8]) -> usize
-    requires { ⌜ (length (now block) ≡ 512) × (at + 16 ≤ length (now room)) ⌝ }
-    ensures bound { λ r. ⌜ r ≤ at + 16 ⌝ }
-    ensures written { λ r. ⌜ ((n : ℕ) (b : Stream) → BlockOf n (now (block .entry)) b → Wrote (now (room .entry)) (now (room .exit)) at r (bytesOf (drainAnswers stream (drainTicket b)))) ⌝ }
-{
-    let drain = table::pending_drain(block);
-    let DrainState::Draining(ticket) = drain else {
-        return at;
-    };
-    answer::put_plain(room, at, ticket, OK, stream)
 }

@@ -18,7 +18,7 @@ use Rattle.model.specs.Device.{QueueType, input, output, queued, dequeue
 use Rattle.model.specs.Frames.{QueueCommand, createResource, queueResource, destroyAll, clear, getParameters, setParameters, LiveCommand, destroy, drain, control, toQueue, create, live, CommandRule, commands, ruleOf, wrongLength, queueNumber, queueNamed, codedFormat, resourceId, timestampSent}
 use Rattle.model.specs.Answers.{ErrorCode, invalidOperation, invalidStream, invalidParameter, unsupportedControl, Response, success, bufferDone, drainDone, parameters, failure, Answer}
 use Rattle.model.specs.Replies.{Reply, refuse, reply, Request, own, fail}
-use Rattle.model.specs.Commands.{Surroundings, onCreate, stoppedAnswers, drainAnswers, onDestroy, onDrain, onCreateResource, onQueue, onDestroyAll, drainEnded, withoutEnded, cleared, onClear, onGet, onSet, onQueueOf, onLive, onStream, onRule, onCommand}
+use Rattle.model.specs.Commands.{Surroundings, onCreate, stoppedAnswers, drainEnded, withoutEnded, drainAnswers, onDestroy, onDrain, onCreateResource, isInput, onQueue, onDestroyAll, cleared, onClear, onGet, onSet, onQueueOf, onLive, onStream, onRule, onCommand}
 use Rattle.model.specs.Reports.{timestampOf, hasEos, noteEos, finishLeaves, onFinish, onDrained}
 use Rattle.model.specs.Steps.{Act, command, finish, drained, serve}
 use Rattle.model.specs.Ledger.{Awaited, toBuffer, toDrain, awaitedBy, isBufferOf, isDrain, resourceIn, completes, stepTicket, ownTickets}
@@ -200,7 +200,7 @@ abbrev clears : ℕ → Awaited → Bool
 clears qt w = isBufferOf qt w || (eqb qt 0x100 && isDrain w)
 
 clear-held : (q : QueueType) (b : Stream)
-    → holding (some (withQueue q (cleared (queueOf q b)) (withoutEnded q b))) ≡ viewAfter (clears (queueNumber q)) none 0 true (holding (some b))
+    → holding (some (withQueue q (cleared (queueOf q b)) (withoutEnded (isInput q) b))) ≡ viewAfter (clears (queueNumber q)) none 0 true (holding (some b))
 unfolding holding
 clear-held input b =
     view-with input (cleared (b .inputs)) (withDrain none b) _ _ (ap byResource (queued-stop (b .inputs .slots)) ∙ sym (keep-const false (buffers input b)))
@@ -210,7 +210,7 @@ clear-held output b =
     (λ o. elim o [ input ↦ λ h. sym (keep-const true (buffers input b)) | output ↦ λ h. never h ]) refl
 
 clear-told : (q : QueueType) (n t : ℕ) (b : Stream)
-    → answerTickets (stoppedAnswers n q (buffers q b) ++ (drainAnswers n (drainEnded q b) ++ record { ticket = t; stream = n; response = success } ∷ []))
+    → answerTickets (stoppedAnswers n q (buffers q b) ++ (drainAnswers n (drainEnded (isInput q) b) ++ record { ticket = t; stream = n; response = success } ∷ []))
     ≡ ticketsOf (pick (clears (queueNumber q)) (holding (some b))) ++ t ∷ []
 unfolding holding
 clear-told input n t b = simp (map-append, tickets-stopped, tickets-drain, keep-const true (buffers input b), keep-const false (buffers output b), append-assoc)
@@ -218,12 +218,12 @@ clear-told output n t b = simp (map-append, tickets-stopped, keep-const true (bu
 
 clear-fits : (q : QueueType) (n t : ℕ) (b : Stream)
     → Fits (clears (queueNumber q)) none n t (me t false) (some b)
-    (reply (stoppedAnswers n q (buffers q b) ++ (drainAnswers n (drainEnded q b) ++ record { ticket = t; stream = n; response = success } ∷ []))
-    (some (withQueue q (cleared (queueOf q b)) (withoutEnded q b))))
+    (reply (stoppedAnswers n q (buffers q b) ++ (drainAnswers n (drainEnded (isInput q) b) ++ record { ticket = t; stream = n; response = success } ∷ []))
+    (some (withQueue q (cleared (queueOf q b)) (withoutEnded (isInput q) b))))
 clear-fits q n t b =
     record {
       acc = true;
-      is = simp (any-append fails, fine-stopped n q (buffers q b), fine-drain n (drainEnded q b));
+      is = simp (any-append fails, fine-stopped n q (buffers q b), fine-drain n (drainEnded (isInput q) b));
       held = clear-held q b;
       told = clear-told q n t b;
       adds = λ _. refl;
@@ -355,7 +355,7 @@ module _ (n t : ℕ) (f : List ℕ) (b : Stream) (s : Sane (some b)) where
   cleared-live =
       in-queue 0x0107 clear (λ q e.
       subst (λ (x : ℕ). Fits (clears x) none n t (me t false) (some b)
-      (reply (stoppedAnswers n q (buffers q b) ++ (drainAnswers n (drainEnded q b) ++ own c success ∷ [])) (some (withQueue q (cleared (queueOf q b)) (withoutEnded q b)))))
+      (reply (stoppedAnswers n q (buffers q b) ++ (drainAnswers n (drainEnded (isInput q) b) ++ own c success ∷ [])) (some (withQueue q (cleared (queueOf q b)) (withoutEnded (isInput q) b)))))
       (sym (named-number (field 4 f 8) q e)) (clear-fits q n t b))
 
   -- a command that neither adds nor completes anything changes one queue at most, and not what is Queued in it

@@ -1,6 +1,6 @@
 -- The bytes of a step's answers are read back into answers, and a response's type says whether it is an error.
 use mathlib.Core.Path.{_≡_, refl, ap, _∙_, subst}
-use mathlib.Core.Bool.{Bool, true, _&&_}
+use mathlib.Core.Bool.{Bool, true, false, _&&_}
 use mathlib.Core.Option.{Option, none, some}
 use mathlib.Core.List.{List, [], _∷_, _++_, map}
 use Prim.Native.Nat.{ℕ, zero, suc, _+_, _*_, _^_, _<_, _≤_}
@@ -22,7 +22,7 @@ use Rattle.model.specs.Device.{QueueType, input, output, created, queued
 use Rattle.model.specs.Frames.{QueueCommand, createResource, queueResource, destroyAll, clear, getParameters, setParameters, LiveCommand, word}
 use Rattle.model.specs.Answers.{ErrorCode, invalidOperation, outOfMemory, invalidStream, invalidResource, invalidParameter, unsupportedControl, Response, success, bufferDone, drainDone, parameters, failure, Answer, wordBytes, responseBytes, responseOf, bytesOf, readFrom, answersIn}
 use Rattle.model.specs.Replies.{Reply, Request, own, fail}
-use Rattle.model.specs.Commands.{Surroundings, onCreate, stoppedAnswers, drainAnswers, onDestroy, onDrain, onCreateResource, onQueue, onDestroyAll, drainEnded, onClear, parameterWords, onGet, onSet, onQueueOf, onLive, onCommand}
+use Rattle.model.specs.Commands.{Surroundings, onCreate, stoppedAnswers, drainEnded, drainAnswers, onDestroy, onDrain, onCreateResource, isInput, onQueue, onDestroyAll, onClear, parameterWords, onGet, onSet, onQueueOf, onLive, onCommand}
 use Rattle.model.specs.Steps.{Act, command, finish, drained, Step, serve, DeviceReply, around, stepOn, isError}
 use Rattle.model.specs.WellFormed.{u32, goodSlot, goodDrain, wellFormed, goodAct}
 use Rattle.model.specs.Promises.{asWritten, ReadBack}
@@ -154,9 +154,9 @@ unfolding u32
 drain-good n none h = refl
 drain-good n (some t) h = both (answer-good t n drainDone h refl) refl
 
-ended-good : (q : QueueType) (b : Stream) → GoodStream b → goodDrain (drainEnded q b) ≡ true
-ended-good input b g = g .draining
-ended-good output b g = refl
+ended-good : (ends : Bool) (b : Stream) → GoodStream b → goodDrain (drainEnded ends b) ≡ true
+ended-good true b g = g .draining
+ended-good false b g = refl
 
 pub length-parameters : (q : QueueType) (b : Stream) → length (parameterWords q b) ≡ 28
 unfolding parameterWords
@@ -179,9 +179,9 @@ module _ (c : Request) (t : u32 (c .ticket) ≡ true) where
   queue-readable destroyAll b q g = tests-all GoodAnswers (fail c) _ fail-readable success-readable
   queue-readable clear b q g =
       let n = c .stream in
-      let d = drainAnswers n (drainEnded q b) in
+      let d = drainAnswers n (drainEnded (isInput q) b) in
       good-append (stoppedAnswers n q (buffers q b)) (d ++ own c success ∷ []) (stopped-readable n q b g)
-      (good-append d (own c success ∷ []) (drain-good n (drainEnded q b) (ended-good q b g)) success-readable)
+      (good-append d (own c success ∷ []) (drain-good n (drainEnded (isInput q) b) (ended-good (isInput q) b g)) success-readable)
   queue-readable getParameters b q g = own-good c (parameters (parameterWords q b)) t (ap (λ k. u32 (8 + 4 * k)) (length-parameters q b))
   queue-readable setParameters b q g = tests-all GoodAnswers (fail c) _ fail-readable success-readable
 

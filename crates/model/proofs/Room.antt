@@ -11,7 +11,7 @@ use Rattle.model.specs.Device.{QueueType, input, output, created, queued
 use Rattle.model.specs.Frames.{QueueCommand, createResource, queueResource, destroyAll, clear, getParameters, setParameters, LiveCommand}
 use Rattle.model.specs.Answers.{ErrorCode, Response, success, bufferDone, drainDone, parameters, failure, Answer, responseBytes, bytesOf}
 use Rattle.model.specs.Replies.{Reply, Request, own, fail}
-use Rattle.model.specs.Commands.{Surroundings, onCreate, stoppedAnswers, drainAnswers, onDestroy, onDrain, onCreateResource, onQueue, onDestroyAll, drainEnded, onClear, parameterWords, onGet, onSet, onQueueOf, onLive, onCommand}
+use Rattle.model.specs.Commands.{Surroundings, onCreate, stoppedAnswers, drainEnded, drainAnswers, onDestroy, onDrain, onCreateResource, isInput, onQueue, onDestroyAll, onClear, parameterWords, onGet, onSet, onQueueOf, onLive, onCommand}
 use Rattle.model.specs.Reports.{timestampOf}
 use Rattle.model.specs.Steps.{Act, command, finish, drained, serve, DeviceReply, around}
 use Rattle.model.specs.Promises.{FitsRoom}
@@ -72,13 +72,13 @@ queue-small queueResource c b q g = tests-all InRoom (fail c) _ (fail-small c) (
 queue-small destroyAll c b q g = tests-all InRoom (fail c) _ (fail-small c) (success-small c)
 queue-small clear c b q g =
     let n = c .stream in
-    let d = drainAnswers n (drainEnded q b) in
+    let d = drainAnswers n (drainEnded (isInput q) b) in
     omega (
       arith,
       size-append (stoppedAnswers n q (buffers q b)) (d ++ own c success ∷ []),
       size-append d (own c success ∷ []),
       stopped-fit n q b g,
-      size-drain n (drainEnded q b),
+      size-drain n (drainEnded (isInput q) b),
       size-own c success,
     )
 queue-small getParameters c b q g = omega (arith, size-own c (parameters (parameterWords q b)), length-parameters q b)

@@ -18,7 +18,7 @@ use Rattle.model.specs.Numbers.{streamPlaces, queueSlots, streamNumbers,
 use Rattle.model.specs.Device.{QueueType, input, output, State, created, queued, dequeued, Slot, free, resource, Queue, Stream, Place, vacant, occupied, Device, fresh, newQueue, newStream, queueOf, withQueue, drainTicket, withDrain, withSlots, present, addResource, setState, stopped, stopAll, freeAll, recordOf, noPlace, place, replace, install, putRecord, isSpent, spend, isNew, spentAfter, putBack}
 use Rattle.model.specs.Frames.{QueueCommand, createResource, queueResource, destroyAll, clear, getParameters, setParameters, LiveCommand, word, streamId, codedFormat, resourceId, timestampSent}
 use Rattle.model.specs.Replies.{Reply, Request, fail}
-use Rattle.model.specs.Commands.{Surroundings, onCreate, onDestroy, onDrain, onCreateResource, onQueue, onDestroyAll, withoutEnded, cleared, onClear, onGet, goodExtent, badExtent, onSet, onQueueOf, onLive, onCommand}
+use Rattle.model.specs.Commands.{Surroundings, onCreate, withoutEnded, onDestroy, onDrain, onCreateResource, isInput, onQueue, onDestroyAll, cleared, onClear, onGet, goodExtent, badExtent, onSet, onQueueOf, onLive, onCommand}
 use Rattle.model.specs.Reports.{hasEos, noteEos}
 use Rattle.model.specs.Steps.{Act, command, finish, drained, streamOf, serve, DeviceReply, around}
 use Rattle.model.specs.WellFormed.{u8, u32, u64, goodState, goodSlot, distinctSlots, goodSlots, goodQueue, goodDrain, goodStream, goodPlace, distinctPlaces, goodPlaces, spentIn, goodSpent, wellFormed, goodAct}
@@ -196,14 +196,14 @@ good-noted : (flags : ℕ) (b : Stream) → GoodStream b → GoodStream (noteEos
 good-noted flags b g =
     cond-elim GoodStream (hasEos flags) (λ _. record { format = g .format; draining = subst (λ (t : Option ℕ). goodDrain t ≡ true) (sym (eos-ticket b)) (g .draining); inputs = g .inputs; outputs = g .outputs }) (λ _. g)
 
-good-clear : (t : QueueType) (b : Stream) → GoodStream b → GoodStream (withQueue t (cleared (queueOf t b)) (withoutEnded t b))
+good-without : (ends : Bool) (b : Stream) → GoodStream b → GoodStream (withoutEnded ends b)
+good-without true b g = good-drain none b g refl
+good-without false b g = g
+
+good-clear : (t : QueueType) (b : Stream) → GoodStream b → GoodStream (withQueue t (cleared (queueOf t b)) (withoutEnded (isInput t) b))
 good-clear t b g =
     let o = good-queue-of t b g in
-    good-with t _ _ (left-good t) (record { slots = slots-stop (queueOf t b .slots) (o .slots); width = o .width; height = o .height; rate = o .rate })
-  where
-    left-good : (x : QueueType) → GoodStream (withoutEnded x b)
-    left-good input = good-drain none b g refl
-    left-good output = g
+    good-with t _ _ (good-without (isInput t) b g) (record { slots = slots-stop (queueOf t b .slots) (o .slots); width = o .width; height = o .height; rate = o .rate })
 
 good-new : (v : ℕ) → within v firstCoded lastCoded ≡ true → GoodStream (newStream v)
 unfolding u32 within

@@ -46,7 +46,15 @@ onCreate around c =
 abbrev pub stoppedAnswers : ℕ → QueueType → List Buffer → List Answer
 stoppedAnswers n q = map (λ (i : Buffer). record { ticket = i .ticket; stream = n; response = bufferDone q (i .timestamp) err })
 
--- the answer to a pending drain, if there is one
+-- the pending drain of a step that ends it, if one is pending; of another step none
+abbrev pub drainEnded : Bool → Stream → Option ℕ
+drainEnded ends b = cond ends (drainTicket b) none
+
+-- the record without that drain
+abbrev pub withoutEnded : Bool → Stream → Stream
+withoutEnded ends b = cond ends (withDrain none b) b
+
+-- the answer to a drain, if there is one
 abbrev pub drainAnswers : ℕ → Option ℕ → List Answer
 drainAnswers n d = map (λ (t : ℕ). record { ticket = t; stream = n; response = drainDone }) (toList d)
 
@@ -117,16 +125,6 @@ onDestroyAll c b q =
     (not (isEmpty (queuedIn s)) ⇒ invalidOperation then
     succeed c (some (withQueue q (withSlots (freeAll s) (queueOf q b)) b)))
 
--- the drain that a clear ends: the input queue's clear ends a pending drain, the output queue's none
-abbrev pub drainEnded : QueueType → Stream → Option ℕ
-drainEnded input b = drainTicket b
-drainEnded output b = none
-
--- the record without that drain
-abbrev pub withoutEnded : QueueType → Stream → Stream
-withoutEnded input b = withDrain none b
-withoutEnded output b = b
-
 -- every Queued buffer Dequeued
 abbrev pub cleared : Queue → Queue
 cleared q = withSlots (stopAll (q .slots)) q
@@ -136,8 +134,8 @@ unfoldable pub onClear : Request → Stream → QueueType → Reply
 onClear c b q =
     let n = c .stream in
     reply
-    (stoppedAnswers n q (buffers q b) ++ (drainAnswers n (drainEnded q b) ++ own c success ∷ []))
-    (some (withQueue q (cleared (queueOf q b)) (withoutEnded q b)))
+    (stoppedAnswers n q (buffers q b) ++ (drainAnswers n (drainEnded (isInput q) b) ++ own c success ∷ []))
+    (some (withQueue q (cleared (queueOf q b)) (withoutEnded (isInput q) b)))
 
 -- the plane count and its 8 pairs of size and stride
 abbrev pub planes : QueueType → Queue → List ℕ

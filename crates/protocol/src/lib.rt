@@ -14,6 +14,7 @@ pub use outcome::UNEXPECTED_REPORT;
 pub use outcome::refused;
 pub use queue_type::Named;
 pub use queue_type::QueueType;
+pub use queue_type::is_input;
 pub use queue_type::queue_named;
 pub use queue_type::queue_number;
 pub use ranges::coded_good;

@@ -1,6 +1,7 @@
 // The queue types.
 ghost use mathlib.Core.Path.{_≡_};
 ghost use Rattle.model.specs.Frames.{queueNumber, queueNamed};
+ghost use Rattle.model.specs.Commands.{isInput};
 ghost use Rattle.protocol.specs.QueueTypes.{queueTypeOf, queueMeant};
 
 const INPUT: u32 = 0x0100;
@@ -37,5 +38,15 @@ pub fn queue_number(q: QueueType) -> u32
     match q {
         QueueType::Input => INPUT,
         QueueType::Output => OUTPUT,
+    }
+}
+
+// Whether it is the input queue.
+pub fn is_input(q: QueueType) -> bool
+    ensures { λ r. ⌜ r ≡ isInput (queueTypeOf q) ⌝ }
+{
+    match q {
+        QueueType::Input => true,
+        QueueType::Output => false,
     }
 }

@@ -1,9 +1,10 @@
 -- `completion::clear_words` meets its contract: the drain first, then the queue.
 use mathlib.Core.Path.{ap, _∙_}
+use mathlib.Core.Bool.{Bool}
 use lib.ListN.{length}
 use borrow.Author.Needs.{needs}
 use Rattle.model.specs.Device.{Queue, occupied, queueOf, withQueue}
-use Rattle.model.specs.Commands.{withoutEnded, cleared}
+use Rattle.model.specs.Commands.{withoutEnded, isInput, cleared}
 use Rattle.table.specs.Blocks.{placeWords}
 use Rattle.protocol.specs.QueueTypes.{queueTypeOf}
 use Rattle.table.proofs.Records.{queue-sized, queue-lent}
@@ -11,6 +12,9 @@ use Rattle.stream.proofs.Steps.{slot-count}
 use Rattle.completion.proofs.Ends.{queue-kept}
 use Rattle.completion.proofs.stops.clear_words.Statement.{statement}
 use Rattle.completion.proofs.stops.clear_words.Tie as tie
+
+is-input-requires : tie.Need-is-input-requires
+is-input-requires c κs = search needs
 
 end-drain-requires : tie.Need-end-drain-requires
 end-drain-requires c κs = search needs
@@ -42,17 +46,21 @@ same-length c = search needs
 returns : tie.Need-returns
 returns c n b h =
     let after-stop-all = c .before .before in let after-queue-start = after-stop-all .before .before in
-    let after-end-drain = after-queue-start .before .before .before in let start = after-end-drain .before .before .before in
+    let after-end-drain = after-queue-start .before .before .before in let after-is-input = after-end-drain .before .before in
+    let start = after-is-input .before .before in
     let q = queueTypeOf (start .args .queue) in
-    let x = withoutEnded q b in
-    queue-lent n x (queue-sized n x (λ o. ap (λ (y : Queue). length (y .slots)) (queue-kept o q b) ∙ slot-count h o)) q _ (after-queue-start .queue-start .ensures .1) _ (after-end-drain .end-drain .ensures n b (h .held)) _
+    let x = withoutEnded (isInput q) b in
+    queue-lent n x (queue-sized n x (λ o. ap (λ (y : Queue). length (y .slots)) (queue-kept o (isInput q) b) ∙ slot-count h o)) q _
+    (after-queue-start .queue-start .ensures .1) _
+    (after-end-drain .end-drain .ensures n b (h .held) ∙ ap (λ (y : Bool). placeWords (occupied n (withoutEnded y b))) (after-is-input .is-input .ensures)) _
     (cleared (queueOf q x)) (after-stop-all .stop-all .ensures (queueOf q x))
-    ∙ ap (λ (y : Queue). placeWords (occupied n (withQueue q (cleared y) x))) (queue-kept q q b)
+    ∙ ap (λ (y : Queue). placeWords (occupied n (withQueue q (cleared y) x))) (queue-kept q (isInput q) b)
 
 pub clear-words-spec : {M : Type 1} → statement M
 clear-words-spec =
     tie.close
     (tie.spec
+    is-input-requires
     end-drain-requires
     queue-start-requires
     add-stop-all

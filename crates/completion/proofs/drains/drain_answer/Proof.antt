@@ -5,8 +5,8 @@ use borrow.Author.Needs.{needs}
 use Rattle.model.specs.Device.{drainTicket}
 use Rattle.table.specs.Values.{drainOf}
 use Rattle.completion.proofs.Ends.{plain-next, wrote-drain, wrote-no-drain}
-use Rattle.completion.proofs.stops.drain_answer.Statement.{statement}
-use Rattle.completion.proofs.stops.drain_answer.Tie as tie
+use Rattle.completion.proofs.drains.drain_answer.Statement.{statement}
+use Rattle.completion.proofs.drains.drain_answer.Tie as tie
 
 pending-drain-requires : tie.Need-pending-drain-requires
 pending-drain-requires c κs = search needs
