@@ -208,7 +208,7 @@ struct virtio_video_resource_queue {
 
 enum virtio_video_buffer_flag {
 	VIRTIO_VIDEO_BUFFER_FLAG_ERR = 0x0001,	/* failed, or stopped */
-	VIRTIO_VIDEO_BUFFER_FLAG_EOS = 0x0002,	/* last output of a drain, once for each */
+	VIRTIO_VIDEO_BUFFER_FLAG_EOS = 0x0002,	/* last output of a drain, which ends with it */
 };
 
 /* A buffer's answer; its type is VIRTIO_VIDEO_RESP_OK_RESOURCE_QUEUE */
@@ -330,15 +330,12 @@ enum virtio_video_refusal {
 	/* the command has no whole header */
 	VIRTIO_VIDEO_REFUSAL_SHORT_COMMAND = 4,
 	/*
-	 * finish: that buffer is not Queued now. drained: no such stream, no drain is pending,
-	 * an input is still Queued, or no output was finished with EOS since the drain was
-	 * accepted and the stream has output resources, in whatever state
+	 * finish: that buffer is not Queued now, or it has EOS while an input is still Queued.
+	 * drained: no such stream, no drain is pending, an input is still Queued, or the stream
+	 * has output resources, in whatever state
 	 */
 	VIRTIO_VIDEO_REFUSAL_UNEXPECTED_REPORT = 5,
-	/*
-	 * flags other than ERR and EOS; EOS on an input, with no drain pending, or a second time
-	 * for the same drain
-	 */
+	/* flags other than ERR and EOS; EOS on an input, or with no drain pending */
 	VIRTIO_VIDEO_REFUSAL_BAD_FLAGS = 6,
 };
 
@@ -398,8 +395,13 @@ virtio_video_command(uint32_t *table, size_t words, uint32_t ticket,
  * The back end is done with a Queued buffer. flags are VIRTIO_VIDEO_BUFFER_FLAG_ERR and
  * VIRTIO_VIDEO_BUFFER_FLAG_EOS; timestamp goes into the answer of an output.
  *
- * EOS, alone or with ERR, tells the guest that this is the last output of the pending drain.
- * It is taken once for each drain, and leaves the drain pending.
+ * EOS, alone or with ERR, says that this is the last output of the pending drain, and ends
+ * it: the buffer is answered and then the STREAM_DRAIN, 48 bytes in all. Without EOS it is
+ * the buffer alone, 32 bytes. Other outputs that are Queued stay so.
+ *
+ * The report itself is refused, tested in this order, for flags above 3 (BAD_FLAGS); a buffer
+ * that is not Queued now (UNEXPECTED_REPORT); EOS on an input, or with no drain pending
+ * (BAD_FLAGS); EOS while an input is Queued (UNEXPECTED_REPORT), so report the inputs first.
  */
 struct virtio_video_outcome
 virtio_video_finish(uint32_t *table, size_t words, uint32_t stream,
@@ -407,10 +409,11 @@ virtio_video_finish(uint32_t *table, size_t words, uint32_t stream,
 		    uint64_t timestamp, uint8_t *answers, size_t answers_len);
 
 /*
- * The back end has drained a stream: its STREAM_DRAIN is answered. By then no input is Queued, and
- * an output has been finished with EOS since the drain was accepted, so that the guest knows its
- * last picture. A stream that has no output resources when the report comes needs no EOS. Outputs
- * may be Queued, and stay so.
+ * The back end has drained a stream without output resources: its STREAM_DRAIN is answered, 16
+ * bytes. A stream that has outputs, in whatever state, ends its drain with the last one, by a
+ * finish with EOS; where none of them is Queued, the drain waits until the guest queues one. There
+ * this report is refused with UNEXPECTED_REPORT, as it is for no such stream, with no drain
+ * pending, and while an input is Queued.
  */
 struct virtio_video_outcome
 virtio_video_drained(uint32_t *table, size_t words, uint32_t stream,

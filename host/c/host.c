@@ -15,10 +15,7 @@
 #define INPUT	VIRTIO_VIDEO_QUEUE_TYPE_INPUT
 #define OUTPUT	VIRTIO_VIDEO_QUEUE_TYPE_OUTPUT
 
-/*
- * Where the first stream's drain stands: 0 if none is pending, 1 if one is, 2 if EOS was given
- * for it. Its ticket follows.
- */
+/* Where the first stream's drain stands: 1 if one is pending, else 0. Its ticket follows. */
 #define DRAIN	3
 
 /* The words of the spent numbers begin here: number n is bit n % 32 of word SPENT + n / 32 */
@@ -207,6 +204,13 @@ static void drained(const char *what, uint32_t refusal, const char *hex)
 	       refusal, hex);
 }
 
+/* Compares the drain in the table with what is expected. */
+static void expect_drain(uint32_t pending, uint32_t ticket)
+{
+	if (table[DRAIN] != pending || table[DRAIN + 1] != ticket)
+		wrong("the drain in the table");
+}
+
 /* The guest's commands */
 
 static struct virtio_video_cmd_hdr header(uint32_t type)
@@ -372,24 +376,29 @@ static void draining(void)
 	queue(19, "queue input 5 while draining", INPUT, 5, 1,
 	      "13000000 08000000 00030000 07000000");
 	queue(20, "queue output 5 while draining", OUTPUT, 5, 0, "");
-	drained("the stream is drained, with input 6 Queued",
-		VIRTIO_VIDEO_REFUSAL_UNEXPECTED_REPORT, "");
+	/* the last picture comes after the last input */
+	finish("output 5 is done, the last one, with input 6 Queued", OUTPUT, 5,
+	       VIRTIO_VIDEO_BUFFER_FLAG_EOS, UINT64_C(0x100000002),
+	       VIRTIO_VIDEO_REFUSAL_UNEXPECTED_REPORT, "");
+	/* 6 comes before 5 */
+	finish("input 6 is done, the last one", INPUT, 6, VIRTIO_VIDEO_BUFFER_FLAG_EOS, 0,
+	       VIRTIO_VIDEO_REFUSAL_BAD_FLAGS, "");
 	finish("input 6 is done, and failed", INPUT, 6, VIRTIO_VIDEO_BUFFER_FLAG_ERR, 0, 0,
 	       "10000000 18000000 02020000 07000000 0200000001000000 01000000 00000000");
-	/* there is an output, so the guest waits for the last one */
+	/* there is an output, so the drain ends with the last one */
 	drained("the stream is drained, without a last output",
 		VIRTIO_VIDEO_REFUSAL_UNEXPECTED_REPORT, "");
+	expect_drain(1, 17);
+	/* one report: it answers the buffer and then the drain */
 	finish("output 5 is done, the last one", OUTPUT, 5, VIRTIO_VIDEO_BUFFER_FLAG_EOS,
 	       UINT64_C(0x100000002), 0,
-	       "14000000 18000000 02020000 07000000 0200000001000000 02000000 00000000");
-	if (table[DRAIN] != 2 || table[DRAIN + 1] != 17)
-		wrong("the drain in the table");
+	       "14000000 18000000 02020000 07000000 0200000001000000 02000000 00000000"
+	       "11000000 08000000 00020000 07000000");
+	expect_drain(0, 0);
 	queue(21, "queue output 5 again", OUTPUT, 5, 80, "");
-	finish("output 5 is done, EOS a second time", OUTPUT, 5, VIRTIO_VIDEO_BUFFER_FLAG_EOS, 0,
-	       VIRTIO_VIDEO_REFUSAL_BAD_FLAGS, "");
+	finish("output 5 is done, EOS with the drain answered", OUTPUT, 5,
+	       VIRTIO_VIDEO_BUFFER_FLAG_EOS, 0, VIRTIO_VIDEO_REFUSAL_BAD_FLAGS, "");
 	/* output 5 stays Queued, for what is decoded next */
-	drained("the stream is drained", 0, "11000000 08000000 00020000 07000000");
-	drained("the stream is drained, told twice", VIRTIO_VIDEO_REFUSAL_UNEXPECTED_REPORT, "");
 }
 
 static void stopping(void)
@@ -450,13 +459,29 @@ static void spent_numbers(void)
 	create(40, "create stream 7", "lobby", "28000000 08000000 00020000 07000000");
 }
 
-/* A stream that has no outputs has no last one to wait for. */
-static void without_outputs(void)
+/*
+ * Without outputs there is no last one, and the back end reports that the stream is drained. With
+ * one, the drain ends with the last, also where that failed.
+ */
+static void other_drains(void)
 {
 	plain(41, "drain", VIRTIO_VIDEO_CMD_STREAM_DRAIN, "");
 	drained("the stream is drained", 0, "29000000 08000000 00020000 07000000");
-	plain(42, "destroy the stream", VIRTIO_VIDEO_CMD_STREAM_DESTROY,
-	      "2a000000 08000000 00020000 07000000");
+	expect_drain(0, 0);
+	drained("the stream is drained, told twice", VIRTIO_VIDEO_REFUSAL_UNEXPECTED_REPORT, "");
+	plain(42, "drain", VIRTIO_VIDEO_CMD_STREAM_DRAIN, "");
+	import(43, "import output 5", OUTPUT, 5, "2b000000 08000000 00020000 07000000");
+	drained("the stream is drained, with an output that was never queued",
+		VIRTIO_VIDEO_REFUSAL_UNEXPECTED_REPORT, "");
+	queue(44, "queue output 5", OUTPUT, 5, 0, "");
+	expect_drain(1, 42);
+	finish("output 5 is done, the last one, and failed", OUTPUT, 5,
+	       VIRTIO_VIDEO_BUFFER_FLAG_ERR | VIRTIO_VIDEO_BUFFER_FLAG_EOS, 100, 0,
+	       "2c000000 18000000 02020000 07000000 6400000000000000 03000000 00000000"
+	       "2a000000 08000000 00020000 07000000");
+	expect_drain(0, 0);
+	plain(45, "destroy the stream", VIRTIO_VIDEO_CMD_STREAM_DESTROY,
+	      "2d000000 08000000 00020000 07000000");
 }
 
 /* The host's own slips, and a guest that sends half a header */
@@ -465,22 +490,22 @@ static void refusals(void)
 	struct virtio_video_cmd_hdr c = header(VIRTIO_VIDEO_CMD_STREAM_DRAIN);
 	const uint8_t *frame = (const uint8_t *)&c;
 
-	command(43, "a command of 7 bytes", &c, 7, VIRTIO_VIDEO_REFUSAL_SHORT_COMMAND, "");
-	command(44, "a command of no bytes", NULL, 0, VIRTIO_VIDEO_REFUSAL_SHORT_COMMAND, "");
+	command(46, "a command of 7 bytes", &c, 7, VIRTIO_VIDEO_REFUSAL_SHORT_COMMAND, "");
+	command(47, "a command of no bytes", NULL, 0, VIRTIO_VIDEO_REFUSAL_SHORT_COMMAND, "");
 	printf("host: lends nothing\n");
-	expect(virtio_video_command(NULL, 0, 45, NULL, 0, NULL, 0),
+	expect(virtio_video_command(NULL, 0, 48, NULL, 0, NULL, 0),
 	       VIRTIO_VIDEO_REFUSAL_SHORT_TABLE, "");
 	printf("host: lends a short table\n");
-	expect(virtio_video_command(table, VIRTIO_VIDEO_TABLE_WORDS - 1, 46, frame, sizeof(c),
+	expect(virtio_video_command(table, VIRTIO_VIDEO_TABLE_WORDS - 1, 49, frame, sizeof(c),
 				    room, sizeof(room)),
 	       VIRTIO_VIDEO_REFUSAL_SHORT_TABLE, "");
 	printf("host: lends a short room\n");
-	expect(virtio_video_command(table, VIRTIO_VIDEO_TABLE_WORDS, 47, frame, sizeof(c), room,
+	expect(virtio_video_command(table, VIRTIO_VIDEO_TABLE_WORDS, 50, frame, sizeof(c), room,
 				    sizeof(room) - 1),
 	       VIRTIO_VIDEO_REFUSAL_SHORT_ROOM, "");
 	printf("host: lends a table with a word changed\n");
 	table[VIRTIO_VIDEO_TABLE_WORDS - 1] = 1;
-	expect(virtio_video_command(table, VIRTIO_VIDEO_TABLE_WORDS, 48, frame, sizeof(c), room,
+	expect(virtio_video_command(table, VIRTIO_VIDEO_TABLE_WORDS, 51, frame, sizeof(c), room,
 				    sizeof(room)),
 	       VIRTIO_VIDEO_REFUSAL_INVALID_TABLE, "");
 	table[VIRTIO_VIDEO_TABLE_WORDS - 1] = 0;
@@ -578,7 +603,7 @@ int main(void)
 	draining();
 	stopping();
 	spent_numbers();
-	without_outputs();
+	other_drains();
 	refusals();
 	playing();
 

@@ -271,8 +271,9 @@ static void step(const struct step *s)
 	if (outcome.refusal == VIRTIO_VIDEO_REFUSAL_NONE) {
 		CHECK(outcome.written <= ROOM);
 		count = answers(outcome.written, &error);
+		/* a report answers one buffer or drain, and with EOS one of each */
 		if (s->kind != COMMAND)
-			CHECK(count == 1 && !error);
+			CHECK(!error && count == (s->flags & VIRTIO_VIDEO_BUFFER_FLAG_EOS ? 2u : 1u));
 		if (error)
 			CHECK(count == 1);
 		if (count)
@@ -407,6 +408,34 @@ static void burst(uint8_t *frame, uint8_t op)
 	}
 }
 
+/* What ends a drain: an output of a stream is queued, the drain comes, and the output is its last */
+static void ending(uint8_t *frame)
+{
+	static const uint32_t types[4] = {
+		VIRTIO_VIDEO_CMD_STREAM_CREATE, VIRTIO_VIDEO_CMD_RESOURCE_CREATE,
+		VIRTIO_VIDEO_CMD_RESOURCE_QUEUE, VIRTIO_VIDEO_CMD_STREAM_DRAIN,
+	};
+	struct step s;
+	size_t length;
+	uint32_t i;
+
+	memset(&s, 0, sizeof(s));
+	s.kind = FINISH;
+	s.stream = stream_number(byte());
+	s.queue_type = VIRTIO_VIDEO_QUEUE_TYPE_OUTPUT;
+	s.flags = VIRTIO_VIDEO_BUFFER_FLAG_EOS;
+	for (i = 0; i < 4; i++) {
+		length = shape(frame, types[i]);
+		put32(frame, 4, s.stream);
+		if (types[i] != VIRTIO_VIDEO_CMD_STREAM_CREATE) {
+			put32(frame, 8, s.queue_type);
+			put32(frame, 12, s.resource);
+		}
+		command(i, frame, length);
+	}
+	step(&s);
+}
+
 /* Makes the table that of a device without streams, or leaves it alone if it is short. */
 static void make_fresh(void)
 {
@@ -467,7 +496,10 @@ static void one_step(void)
 		step(&s);
 		break;
 	case 4:
-		burst(frame, op >> 3);
+		if (op & 0x80)
+			ending(frame);
+		else
+			burst(frame, op >> 3);
 		break;
 	default:
 		ticket = half() * 0x10001;

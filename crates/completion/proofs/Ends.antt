@@ -1,34 +1,37 @@
 -- Laws of the reports, of a clear and of a destroy on a stream's block.
 use mathlib.Core.Path.{_≡_, refl, sym, ap, _∙_, subst}
-use mathlib.Core.Bool.{Bool, true, false, not, _&&_, _||_}
+use mathlib.Core.Bool.{Bool, true, false, not}
 use mathlib.Core.Option.{Option, none, some}
 use mathlib.Core.List.{List, [], _∷_, _++_, append-assoc, append-nil, map-append}
-use Prim.Native.Nat.{ℕ, _+_, _<_, _≤_}
+use Prim.Native.Nat.{ℕ, _+_, _-_, _≤_}
 use native.Mathlib.Omega.{arith}
 use native.Mathlib.Numerals.{add-one}
 use lib.ListN.{length, set, length-append}
-use borrow.Author.Tests.{le-ltb, lt-leb, le-leb}
+use borrow.Author.Tests.{le-ltb}
+use Rattle.laws.specs.Parts.{part, withPart}
 use Rattle.laws.specs.Stores.{Wrote}
-use Rattle.laws.specs.Lists.{keep, isEmpty, isNone}
+use Rattle.laws.specs.Lists.{keep}
 use Rattle.laws.specs.Ascending.{notBelow}
-use Rattle.laws.proofs.Tests.{never}
 use Rattle.laws.proofs.Lists.{none-is, no-element, keep-ext, keep-const}
 use Rattle.laws.proofs.Ascending.{length-ascending}
 use Rattle.laws.proofs.Stores.{wrote-none, wrote-append}
-use Rattle.model.specs.Device.{QueueType, input, output, dequeued, Slot, resource, Queue, Stream, occupied, queueOf, withQueue, drainTicket, withDrain, eosGivenIn, withEos, withSlots, Buffer, buffer, queuedIn, byResource, bufferOf, noResource, place}
+use Rattle.model.specs.Device.{QueueType, input, output, isInput, dequeued, Slot, resource, Queue, Stream, occupied, queueOf, withQueue, withDrain, withSlots, Buffer, buffer, queuedIn, byResource, bufferOf, noResource, place}
 use Rattle.model.specs.Frames.{queueNamed}
 use Rattle.model.specs.Answers.{bufferDone, drainDone, Answer, responseType, bytesOf}
 use Rattle.model.specs.Replies.{Reply, refuse, reply}
-use Rattle.model.specs.Commands.{stoppedAnswers, drainAnswers, onDestroy, isInput, drainEnded, withoutEnded, onClear}
-use Rattle.model.specs.Reports.{timestampOf, hasEos, badEos, noteEos, finishBuffer, finishQueue, onFinish, drainOver, endDrain, onDrained}
+use Rattle.model.specs.Commands.{stoppedAnswers, drainAnswers, onDestroy, drainEnded, withoutEnded, onClear}
+use Rattle.model.specs.Reports.{timestampOf, hasEos, badEos, inputQueued, earlyEos, finishAnswers, finishLeaves, finishBuffer, finishQueue, onFinish, drainOver, answerDrain, onDrained}
 use Rattle.model.proofs.Slots.{Distinct}
 use Rattle.model.proofs.Room.{length-queued}
 use Rattle.queue.specs.Search.{slotAt, isQueued, numberIn, ticketIn, timestampIn, findResource, nextQueued}
 use Rattle.queue.proofs.Bridge.{Next, next-found, next-missed, absent-buffer, find-number, find-set, find-queued, find-ticket, find-absent}
-use Rattle.table.specs.Blocks.{placeWords}
+use Rattle.queue.specs.Words.{queueWords}
+use Rattle.table.specs.Blocks.{queueStart, placeWords}
+use Rattle.table.proofs.Records.{queue-sized, queue-lent}
 use Rattle.answer.specs.Answer.{answerTo, plainBytes}
 use Rattle.answer.proofs.Laws.{plain-length, wrote-plain, buffer-length}
 use Rattle.stream.specs.Replied.{BlockOf, requestTo}
+use Rattle.stream.proofs.Steps.{slot-count}
 use Rattle.completion.specs.Done.{Done, clearAnswers, destroyAnswers, clearLeaves}
 
 -- Reports that are refused, and reports that are answered
@@ -44,28 +47,25 @@ answered-done {n} {r} {w = w} {d = d} {e = e} l s is held bytes =
 -- A drained report
 
 module _ (n : ℕ) (b : Stream) where
-  pub drained-none : none ≡ drainTicket b → onDrained n (some b) ≡ refuse 5 (some b)
+  pub drained-none : none ≡ b .draining → onDrained n (some b) ≡ refuse 5 (some b)
   unfolding onDrained
-  drained-none e = ap (endDrain n b) (sym e)
+  drained-none e = ap (answerDrain n b) (sym e)
 
-  pub drained-early : (t : ℕ) → some t ≡ drainTicket b → drainOver b ≡ false → onDrained n (some b) ≡ refuse 5 (some b)
+  pub drained-early : (t : ℕ) → some t ≡ b .draining → drainOver b ≡ false → onDrained n (some b) ≡ refuse 5 (some b)
   unfolding onDrained
-  drained-early t e h = ap (endDrain n b) (sym e) ∙ rw h
+  drained-early t e h = ap (answerDrain n b) (sym e) ∙ rw h
 
-  pub drained-ends : (t : ℕ) → some t ≡ drainTicket b → drainOver b ≡ true → onDrained n (some b) ≡ reply (answerTo t n drainDone ∷ []) (some (withDrain none b))
+  pub drained-ends : (t : ℕ) → some t ≡ b .draining → drainOver b ≡ true → onDrained n (some b) ≡ reply (answerTo t n drainDone ∷ []) (some (withDrain none b))
   unfolding onDrained
-  drained-ends t e h = ap (endDrain n b) (sym e) ∙ rw h
+  drained-ends t e h = ap (answerDrain n b) (sym e) ∙ rw h
 
 -- whether a drain is over
 module _ (b : Stream) where
-  pub input-waits : isEmpty (queuedIn (b .inputs .slots)) ≡ false → false ≡ drainOver b
+  pub input-waits : inputQueued b ≡ true → false ≡ drainOver b
   input-waits h = rw h
 
-  pub eos-came : isEmpty (queuedIn (b .inputs .slots)) ≡ true → eosGivenIn b ≡ true → true ≡ drainOver b
-  eos-came h g = rw (h, g)
-
-  pub eos-missing : isEmpty (queuedIn (b .inputs .slots)) ≡ true → eosGivenIn b ≡ false → noResource (b .outputs .slots) ≡ drainOver b
-  eos-missing h g = rw (h, g)
+  pub inputs-done : inputQueued b ≡ false → noResource (b .outputs .slots) ≡ drainOver b
+  inputs-done h = rw h
 
 -- A finish report
 
@@ -83,42 +83,24 @@ module _ (n queue m flags ts : ℕ) (b : Stream) where
 
 -- EOS
 module _ (flags : ℕ) (q : QueueType) (b : Stream) where
-  pub eos-absent : flags < 2 → false ≡ badEos flags q b
-  eos-absent h = rw (lt-leb 2 flags h)
+  pub eos-absent : hasEos flags ≡ false → false ≡ badEos flags q b
+  eos-absent h = rw h
 
-  pub eos-input : 2 ≤ flags → q ≡ input → true ≡ badEos flags q b
-  eos-input h e = rw (le-leb 2 flags h, e)
+  pub eos-input : hasEos flags ≡ true → isInput q ≡ true → true ≡ badEos flags q b
+  eos-input h e = rw (h, e)
 
-  pub eos-draining : (t : ℕ) → 2 ≤ flags → q ≡ output → some t ≡ drainTicket b → eosGivenIn b ≡ badEos flags q b
-  eos-draining t h e o = rw (le-leb 2 flags h, e, ← o)
+  pub eos-draining : {t : ℕ} → hasEos flags ≡ true → isInput q ≡ false → some t ≡ b .draining → false ≡ badEos flags q b
+  eos-draining h e o = rw (h, e, ← o)
 
-  pub eos-no-drain : 2 ≤ flags → q ≡ output → none ≡ drainTicket b → true ≡ badEos flags q b
-  eos-no-drain h e o = rw (le-leb 2 flags h, e, ← o)
+  pub eos-no-drain : hasEos flags ≡ true → isInput q ≡ false → none ≡ b .draining → true ≡ badEos flags q b
+  eos-no-drain h e o = rw (h, e, ← o)
 
-  -- EOS that is taken has its drain, also in the record with another queue
-  pub eos-drain : (x : Queue) → badEos flags q b ≡ false → hasEos flags && isNone (drainTicket (withQueue q x b)) ≡ false
-  eos-drain x h = ap (λ (t : Option ℕ). hasEos flags && isNone t) (kept q) ∙ of (hasEos flags) (isInput q) (isNone (drainTicket b)) (eosGivenIn b) h
-    where
-      kept : (o : QueueType) → drainTicket (withQueue o x b) ≡ drainTicket b
-      kept input = refl
-      kept output = refl
-
-      of : (has ins idle given : Bool) → has && (ins || (idle || given)) ≡ false → has && idle ≡ false
-      of false ins idle given h = refl
-      of true true idle given h = never h
-      of true false true given h = h
-      of true false false given h = refl
-
--- EOS is noted where the flags have it
 module _ (flags : ℕ) (b : Stream) where
-  pub eos-noted : 2 ≤ flags → withEos b ≡ noteEos flags b
-  eos-noted h = rw (le-leb 2 flags h)
+  pub never-early : hasEos flags ≡ false → false ≡ earlyEos flags b
+  never-early h = rw h
 
-  pub eos-unnoted : flags < 2 → b ≡ noteEos flags b
-  eos-unnoted h = rw (lt-leb 2 flags h)
-
-  pub eos-due : 2 ≤ flags → hasEos flags && isNone (drainTicket b) ≡ false → isNone (drainTicket b) ≡ false
-  eos-due h z = rw (le-leb 2 flags h) at z
+  pub early-by-inputs : hasEos flags ≡ true → inputQueued b ≡ earlyEos flags b
+  early-by-inputs h = rw h
 
 -- the timestamp
 module _ (q : QueueType) (i : Buffer) (ts : ℕ) where
@@ -147,17 +129,12 @@ module _ (n m flags ts : ℕ) (b : Stream) (q : QueueType) where
       pub finish-eos : badEos flags q b ≡ true → finishBuffer n m flags ts b q (bufferOf m (queuedIn (queueOf q b .slots))) ≡ refuse 6 (some b)
       finish-eos e = ap (finishBuffer n m flags ts b q) (find-ticket m k (queueOf q b .slots) found z waits) ∙ rw e
 
-      pub finish-answers : (ticket told : ℕ) → badEos flags q b ≡ false → ticket ≡ ticketIn (slotAt k (queueOf q b .slots))
-          → ((i : Buffer) → i .timestamp ≡ timestampIn (slotAt k (queueOf q b .slots)) → told ≡ timestampOf q i ts)
-          → finishBuffer n m flags ts b q (bufferOf m (queuedIn (queueOf q b .slots)))
-          ≡ reply (answerTo ticket n (bufferDone q told flags) ∷ []) (some (noteEos flags (withQueue q (withSlots (set (queueOf q b .slots) k (resource (numberIn (slotAt k (queueOf q b .slots))) dequeued)) (queueOf q b)) b)))
-      finish-answers ticket told eos t u =
-          let s = queueOf q b .slots in
-          let x = slotAt k s in
-          let i = buffer m (ticketIn x) (timestampIn x) in
-          ap (finishBuffer n m flags ts b q) (find-ticket m k s found z waits)
-          ∙ rw eos (λ j. reply (answerTo (sym t j) n (bufferDone q (sym (u i refl) j) flags) ∷ [])
-          (some (noteEos flags (withQueue q (withSlots ((find-set m k s found z dequeued ∙ ap (λ (r : ℕ). set s k (resource r dequeued)) (sym (find-number m k s found))) j) (queueOf q b)) b))))
+      pub finish-early : badEos flags q b ≡ false → earlyEos flags b ≡ true → finishBuffer n m flags ts b q (bufferOf m (queuedIn (queueOf q b .slots))) ≡ refuse 5 (some b)
+      finish-early e o = ap (finishBuffer n m flags ts b q) (find-ticket m k (queueOf q b .slots) found z waits) ∙ rw (e, o)
+
+      pub finish-taken : badEos flags q b ≡ false → earlyEos flags b ≡ false → finishBuffer n m flags ts b q (bufferOf m (queuedIn (queueOf q b .slots)))
+          ≡ reply (finishAnswers n flags ts b q (buffer m (ticketIn (slotAt k (queueOf q b .slots))) (timestampIn (slotAt k (queueOf q b .slots))))) (some (finishLeaves m flags b q))
+      finish-taken e o = ap (finishBuffer n m flags ts b q) (find-ticket m k (queueOf q b .slots) found z waits) ∙ rw (e, o)
 
 -- The walk over the Queued buffers of a queue
 
@@ -231,14 +208,14 @@ module _ (n : ℕ) (t : QueueType) (s : List Slot) where
         subst (λ (x : ℕ). Along n t s d f at r (x + 1) (turn + 1)) (sym is)
         (along-more k (next-found least s z k found) (w (buffer (numberIn (slotAt k s)) (ticketIn (slotAt k s)) (timestampIn (slotAt k s))) refl refl))
 
--- What a clear and a destroy answer, and what they leave
+-- What is answered, and what is left
 
 module _ {d e : List ℕ} {at r : ℕ} (n : ℕ) where
-  pub wrote-stopped : (ticket ts : ℕ) (q : QueueType) (i : Buffer) → ticket ≡ i .ticket → ts ≡ i .timestamp
-      → Wrote d e at r (bytesOf (answerTo ticket n (bufferDone q ts 1) ∷ [])) → Wrote d e at r (bytesOf (stoppedAnswers n q (i ∷ [])))
-  wrote-stopped ticket ts q i p u w =
-      subst (λ (x : ℕ). Wrote d e at r (bytesOf (answerTo x n (bufferDone q (i .timestamp) 1) ∷ []))) p
-      (subst (λ (x : ℕ). Wrote d e at r (bytesOf (answerTo ticket n (bufferDone q x 1) ∷ []))) u w)
+  pub wrote-buffer : {ticket ticket′ ts ts′ : ℕ} (flags : ℕ) (q : QueueType) → ticket ≡ ticket′ → ts ≡ ts′
+      → Wrote d e at r (bytesOf (answerTo ticket n (bufferDone q ts flags) ∷ [])) → Wrote d e at r (bytesOf (answerTo ticket′ n (bufferDone q ts′ flags) ∷ []))
+  wrote-buffer {ticket} {ts′ = ts′} flags q p u w =
+      subst (λ (x : ℕ). Wrote d e at r (bytesOf (answerTo x n (bufferDone q ts′ flags) ∷ []))) p
+      (subst (λ (x : ℕ). Wrote d e at r (bytesOf (answerTo ticket n (bufferDone q x flags) ∷ []))) u w)
 
   pub wrote-drain : (t : ℕ) (x : Option ℕ) → some t ≡ x → Wrote d e at r (plainBytes t (responseType drainDone) n) → Wrote d e at r (bytesOf (drainAnswers n x))
   wrote-drain t x is w = subst (λ (o : Option ℕ). Wrote d e at r (bytesOf (drainAnswers n o))) is (wrote-plain t n drainDone refl w)
@@ -257,10 +234,27 @@ module _ (n : ℕ) (ends : Bool) (b : Stream) where
   drain-left e = rw e
 
 -- a drain that ends is no part of a queue
-pub queue-kept : (o : QueueType) (ends : Bool) (b : Stream) → queueOf o (withoutEnded ends b) ≡ queueOf o b
+queue-kept : (o : QueueType) (ends : Bool) (b : Stream) → queueOf o (withoutEnded ends b) ≡ queueOf o b
 queue-kept input true b = refl
 queue-kept output true b = refl
 queue-kept o false b = refl
+
+-- a queue of the record without that drain, lent and back with what f makes of it
+pub queue-ended : {n : ℕ} {w : List ℕ} {b : Stream} → BlockOf n w b → (ends : Bool) (q : QueueType) (a : ℕ) → a ≡ queueStart q → (l ys : List ℕ) (f : Queue → Queue)
+    → l ≡ placeWords (occupied n (withoutEnded ends b)) → ((x : Queue) → part a (a + 84 - a) l ≡ queueWords x → ys ≡ queueWords (f x))
+    → withPart a (a + 84 - a) l ys ≡ placeWords (occupied n (withQueue q (f (queueOf q b)) (withoutEnded ends b)))
+queue-ended {n} {b = b} h ends q a at l ys f held back =
+    let x = withoutEnded ends b in
+    queue-lent n x (queue-sized n x (λ o. ap (λ (y : Queue). length (y .slots)) (queue-kept o ends b) ∙ slot-count h o)) q a at l held ys (f (queueOf q x)) (back (queueOf q x))
+    ∙ ap (λ (y : Queue). placeWords (occupied n (withQueue q (f y) x))) (queue-kept q ends b)
+
+-- the resource in slot k is the one that a finish names
+pub finish-leaves : (m flags k : ℕ) (b : Stream) (q : QueueType) → Distinct (queueOf q b .slots) → findResource m (queueOf q b .slots) ≡ some k
+    → withQueue q (withSlots (set (queueOf q b .slots) k (resource (numberIn (slotAt k (queueOf q b .slots))) dequeued)) (queueOf q b)) (withoutEnded (hasEos flags) b) ≡ finishLeaves m flags b q
+finish-leaves m flags k b q z found =
+    let s = queueOf q b .slots in
+    ap (λ (x : List Slot). withQueue q (withSlots x (queueOf q b)) (withoutEnded (hasEos flags) b))
+    (ap (λ (r : ℕ). set s k (resource r dequeued)) (find-number m k s found) ∙ sym (find-set m k s found z dequeued))
 
 module _ (n t : ℕ) (f : List ℕ) (b : Stream) where
   pub clear-is : (q : QueueType) → onClear (requestTo n t f b) b q ≡ reply (clearAnswers n t q b) (some (clearLeaves q b))

@@ -3,10 +3,10 @@
 use Prim.Native.Nat.{ℕ}
 use mathlib.Core.Path.{_≡_}
 use mathlib.Core.List.{List, [], _∷_, _++_}
-use Rattle.model.specs.Device.{QueueType, input, output, Stream, queueOf, withQueue, drainTicket, buffers}
+use Rattle.model.specs.Device.{QueueType, input, output, isInput, Stream, queueOf, withQueue, buffers}
 use Rattle.model.specs.Answers.{success, Answer}
 use Rattle.model.specs.Replies.{Reply}
-use Rattle.model.specs.Commands.{stoppedAnswers, drainEnded, withoutEnded, drainAnswers, isInput, cleared}
+use Rattle.model.specs.Commands.{stoppedAnswers, drainEnded, withoutEnded, drainAnswers, cleared}
 use Rattle.answer.specs.Answer.{answerTo}
 use Rattle.stream.specs.Replied.{Replied}
 
@@ -27,4 +27,4 @@ clearLeaves q b = withQueue q (cleared (queueOf q b)) (withoutEnded (isInput q) 
 abbrev pub destroyAnswers : ℕ → ℕ → Stream → List Answer
 destroyAnswers n t b =
     stoppedAnswers n input (buffers input b)
-    ++ (stoppedAnswers n output (buffers output b) ++ (drainAnswers n (drainTicket b) ++ answerTo t n success ∷ []))
+    ++ (stoppedAnswers n output (buffers output b) ++ (drainAnswers n (b .draining) ++ answerTo t n success ∷ []))

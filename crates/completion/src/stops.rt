@@ -15,7 +15,6 @@ ghost use Rattle.table.specs.Blocks.{placeWords};
 ghost use Rattle.protocol.specs.QueueTypes.{queueTypeOf};
 ghost use Rattle.stream.specs.Replied.{BlockOf, requestTo, Replied};
 ghost use Rattle.completion.specs.Done.{clearAnswers, destroyAnswers, clearLeaves};
-use crate::drains::drain_answer;
 use crate::drains::end_drain;
 use crate::drains::ended_answer;
 use protocol::ERR;
@@ -80,7 +79,7 @@ fn destroy_answers(block: &[u32], stream: u32, ticket: u32, room: &mut [u8]) -> 
 {
     let inputs = stop_queue(block, QueueType::Input, 0, stream, room);
     let outputs = stop_queue(block, QueueType::Output, inputs, stream, room);
-    let drain = drain_answer(block, outputs, stream, room);
+    let drain = ended_answer(block, true, outputs, stream, room);
     answer::put_plain(room, drain, ticket, OK, stream)
 }
 

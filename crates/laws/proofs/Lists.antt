@@ -41,10 +41,14 @@ eqb-same n = eq-eqb n n refl
 pub eqb-sym : (m n : ℕ) → eqb m n ≡ false → eqb n m ≡ false
 eqb-sym m n e = ne-eqb n m (λ p. eqb-false m n e (sym p))
 
--- a list without length is empty
+-- a list without length is empty, and one of length 1 has one element
 pub no-element : {A : Type 0} (l : List A) → length l ≡ 0 → l ≡ []
 no-element [] e = refl
 no-element (x ∷ l) e = absurd (omega arith)
+
+pub one-element : {A : Type 0} (l : List A) → length l ≡ 1 → (x : A) × (l ≡ x ∷ [])
+one-element [] e = absurd (omega arith)
+one-element (x ∷ l) e = (x, ap (λ r. x ∷ r) (no-element l (omega arith)))
 
 pub empty-is : {A : Type 0} (l : List A) → isEmpty l ≡ true → l ≡ []
 empty-is [] e = refl
@@ -88,6 +92,11 @@ module _ {A : Type 0} where
   pub keep-excluded : (p q : A → Bool) → ((x : A) → p x ≡ true → q x ≡ false) → (l : List A) → keep q (keep p l) ≡ []
   keep-excluded p q h [] = refl
   keep-excluded p q h (x ∷ l) = decide (p x) (λ e. simp (e, h x e, keep-excluded p q h l)) (λ e. simp (e, keep-excluded p q h l))
+
+  -- where none is kept, none passes
+  pub any-none : (p : A → Bool) (l : List A) → keep p l ≡ [] → anyOf p l ≡ false
+  any-none p [] h = refl
+  any-none p (x ∷ l) h = decide (p x) (λ e. absurd (true≢false (sym (ap isEmpty (simp e at h))))) (λ e. simp e (any-none p l (simp e at h)))
 
 -- any and all of a list's elements
 module _ {A : Type 0} (p : A → Bool) where
@@ -158,14 +167,6 @@ module _ {A : Type 0} (p : A → Bool) where
   pub length-split : (l : List A) → length (keep p l) + length (keep (λ x. not (p x)) l) ≡ length l
   length-split [] = refl
   length-split (x ∷ l) = decide (p x) (λ e. simp e (omega (arith, length-split l))) (λ e. simp e (omega (arith, length-split l)))
-
--- a list of which as many are kept is kept whole
-pub keep-whole : {A : Type 0} (p : A → Bool) (l : List A) → length l ≤ length (keep p l) → keep p l ≡ l
-keep-whole p [] h = refl
-keep-whole p (x ∷ l) h =
-    decide (p x)
-    (λ e. simp e (ap (λ r. x ∷ r) (keep-whole p l (omega (arith, simp e at h)))))
-    (λ e. absurd (omega (arith, length-split p l, simp e at h)))
 
 -- the sum of two lists
 pub total-append : (l m : List ℕ) → total (l ++ m) ≡ total l + total m

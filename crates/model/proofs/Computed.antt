@@ -25,7 +25,7 @@ pub more-cases : MoreCases
 unfolding within same insertBy below notBelow field littleEndian classOf utf8After utf8 nulAt goodTag fresh putRecord isSpent spend ruleOf queueNamed responseBytes readFrom byTests onCreate onDestroy onDrain onCreateResource onQueue onDestroyAll onClear parameterWords onGet onSet onCommand onFinish onDrained streamOf serve hostRefusal stepOn accepted ownerOf belongs outOfMemoryAt awaitedBy completes inOrder ownTickets u32 u64 wellFormed
 more-cases = record {
   spent-numbers = refl;
-  eos-of-drains = refl;
+  last-pictures = refl;
   owners = refl;
   accepts = refl;
   last-error = refl;
@@ -33,6 +33,7 @@ more-cases = record {
   left-pending = refl;
   record-pending = refl;
   completed-in-order = refl;
+  completed-by-finish = refl;
   record-rules = refl;
   any-finish = refl;
 }

@@ -13,7 +13,7 @@ use Rattle.laws.proofs.Tests.{never, both, and-left, and-right}
 use Rattle.laws.proofs.Lists.{decide, eqb-same, keep-comm, keep-append, keep-excluded, all-append, all-keep, howMany-append, howMany-split, howMany-map, howMany-kept}
 use Rattle.laws.proofs.Ascending.{ascending-howMany}
 use Rattle.field.specs.Field.{field, littleEndian}
-use Rattle.model.specs.Device.{QueueType, input, output, Stream, Device, fresh, drainTicket, Buffer, queuedIn, byResource, recordOf}
+use Rattle.model.specs.Device.{QueueType, input, output, Stream, Device, fresh, Buffer, queuedIn, byResource, recordOf}
 use Rattle.model.specs.Frames.{queueNumber}
 use Rattle.model.specs.Answers.{Answer, responseOf, bytesOf, Written, rewritten, answersIn}
 use Rattle.model.specs.Replies.{Reply}
@@ -166,7 +166,7 @@ event-read k d l s g m =
     of none e h = read-refused k d l s g m 4 refl (h ∙ ap (performOf d (s .act)) e)
     of (some n) e h = read-own k d l s g m (h ∙ ap (performOf d (s .act)) (e ∙ ap some (step-stream-is (s .act) n e)))
 
-pub agree-step : (k : ℕ) (d : Device) (l : Ledger) (s : Step) → Agree d l → goodAct (s .act) ≡ true → Agree (stepOn d s .device) (ledgerAfter (notedOf k (eventOf s (stepOn d s))) l)
+agree-step : (k : ℕ) (d : Device) (l : Ledger) (s : Step) → Agree d l → goodAct (s .act) ≡ true → Agree (stepOn d s .device) (ledgerAfter (notedOf k (eventOf s (stepOn d s))) l)
 agree-step k d l s g m = event-read k d l s g m .agree
 
 -- and so over a whole list
@@ -174,13 +174,13 @@ agree-step k d l s g m = event-read k d l s g m .agree
 abbrev good : Step → List Step → Type 0
 good s ss = (goodAct (s .act) && goodSteps ss) ≡ true
 
-as-expected : (k : ℕ) (d : Device) (l : Ledger) (ss : List Step) → Agree d l → goodSteps ss ≡ true → AsExpected k l (eventsOf d ss)
+pub as-expected : (k : ℕ) (d : Device) (l : Ledger) (ss : List Step) → Agree d l → goodSteps ss ≡ true → AsExpected k l (eventsOf d ss)
 as-expected k d l [] g m = tt
 as-expected k d l (s ∷ ss) g m =
     let h = event-read k d l s g (and-left (goodAct (s .act)) (goodSteps ss) m) in
     (h .answers, as-expected (suc k) (stepOn d s .device) (ledgerAfter (notedOf k (eventOf s (stepOn d s))) l) ss (h .agree) (and-right (goodAct (s .act)) (goodSteps ss) m))
 
-agree-end : (k : ℕ) (d : Device) (l : Ledger) (ss : List Step) → Agree d l → goodSteps ss ≡ true → Agree (final d ss) (ledgerFrom k l (eventsOf d ss))
+pub agree-end : (k : ℕ) (d : Device) (l : Ledger) (ss : List Step) → Agree d l → goodSteps ss ≡ true → Agree (final d ss) (ledgerFrom k l (eventsOf d ss))
 agree-end k d l [] g m = g
 agree-end k d l (s ∷ ss) g m =
     agree-end (suc k) (stepOn d s .device) (ledgerAfter (notedOf k (eventOf s (stepOn d s))) l) ss
@@ -237,7 +237,7 @@ is-buffer : (qt : ℕ) (w : Awaited) → isBufferOf qt w ≡ true → w ≡ toBu
 is-buffer qt (toBuffer q r ts) h = ap (λ (x : ℕ). toBuffer x r ts) (eqb-true q qt h)
 is-buffer qt toDrain h = never (sym h)
 
-is-drain : (w : Awaited) → isDrain w ≡ true → w ≡ toDrain
+pub is-drain : (w : Awaited) → isDrain w ≡ true → w ≡ toDrain
 is-drain (toBuffer q r ts) h = never (sym h)
 is-drain toDrain h = refl
 
@@ -288,8 +288,8 @@ module _ (p : Outstanding → Bool) where
         arith,
         howMany-buffers 0x100 (queuedIn (b .inputs .slots)),
         howMany-buffers 0x101 (queuedIn (b .outputs .slots)),
-        howMany-append p (outstandingBuffers 0x100 (queuedIn (b .inputs .slots))) (outstandingBuffers 0x101 (queuedIn (b .outputs .slots)) ++ outstandingDrain (drainTicket b)),
-        howMany-append p (outstandingBuffers 0x101 (queuedIn (b .outputs .slots))) (outstandingDrain (drainTicket b)),
+        howMany-append p (outstandingBuffers 0x100 (queuedIn (b .inputs .slots))) (outstandingBuffers 0x101 (queuedIn (b .outputs .slots)) ++ outstandingDrain (b .draining)),
+        howMany-append p (outstandingBuffers 0x101 (queuedIn (b .outputs .slots))) (outstandingDrain (b .draining)),
       )
 
   agree-pending : (d : Device) (l : Ledger) (n : ℕ) → Agree d l → howMany p (outstandingTo n l) ≡ howMany p (outstandingIn (recordOf n (d .places)))

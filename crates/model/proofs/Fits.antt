@@ -1,7 +1,7 @@
 -- Each step of a stream keeps to the ledger: what is pending by its record after the step, the tickets of its answers, and that a step which is
 -- not accepted leaves the record alone.
 use mathlib.Core.Path.{_≡_, refl, sym, ap, _∙_, subst}
-use mathlib.Core.Bool.{Bool, true, false, cond, not, _&&_, _||_}
+use mathlib.Core.Bool.{Bool, true, false, cond, not, _&&_, _||_, and-false, or-false}
 use mathlib.Core.Option.{Option, none, some}
 use mathlib.Core.List.{List, [], _∷_, _++_, map, append-nil, append-assoc, map-append}
 use Prim.Native.Nat.{ℕ}
@@ -11,19 +11,19 @@ use borrow.Author.Tests.{not-false}
 use Rattle.laws.specs.Lists.{keep, anyOf, Each, isEmpty, toList}
 use Rattle.laws.specs.Ascending.{insertBy}
 use Rattle.laws.proofs.Tests.{never}
-use Rattle.laws.proofs.Lists.{cond-elim, eqb-same, eqb-sym, keep-ascending, keep-const, none-is, any-append, empty-is, each-map}
+use Rattle.laws.proofs.Lists.{cond-elim, each-map, eqb-same, eqb-sym, empty-is, keep-const, keep-ext, any-append, none-is, keep-ascending}
 use Rattle.laws.proofs.InOrder.{tests-cases, tests-all}
 use Rattle.field.specs.Field.{field}
-use Rattle.model.specs.Device.{QueueType, input, output, queued, dequeued, Queue, Stream, newStream, queueOf, withQueue, drainTicket, withDrain, withEos, withSlots, Buffer, queuedIn, byResource, buffers, bufferOf, present, addResource, setState, freeAll}
+use Rattle.model.specs.Device.{QueueType, input, output, isInput, queued, dequeued, Queue, Stream, newStream, queueOf, withQueue, withDrain, withSlots, Buffer, queuedIn, byResource, buffers, bufferOf, present, addResource, setState, freeAll}
 use Rattle.model.specs.Frames.{QueueCommand, createResource, queueResource, destroyAll, clear, getParameters, setParameters, LiveCommand, destroy, drain, control, toQueue, create, live, CommandRule, commands, ruleOf, wrongLength, queueNumber, queueNamed, codedFormat, resourceId, timestampSent}
 use Rattle.model.specs.Answers.{ErrorCode, invalidOperation, invalidStream, invalidParameter, unsupportedControl, Response, success, bufferDone, drainDone, parameters, failure, Answer}
 use Rattle.model.specs.Replies.{Reply, refuse, reply, Request, own, fail}
-use Rattle.model.specs.Commands.{Surroundings, onCreate, stoppedAnswers, drainEnded, withoutEnded, drainAnswers, onDestroy, onDrain, onCreateResource, isInput, onQueue, onDestroyAll, cleared, onClear, onGet, onSet, onQueueOf, onLive, onStream, onRule, onCommand}
-use Rattle.model.specs.Reports.{timestampOf, hasEos, noteEos, finishLeaves, onFinish, onDrained}
+use Rattle.model.specs.Commands.{Surroundings, onCreate, stoppedAnswers, drainEnded, withoutEnded, drainAnswers, onDestroy, onDrain, onCreateResource, onQueue, onDestroyAll, cleared, onClear, onGet, onSet, onQueueOf, onLive, onStream, onRule, onCommand}
+use Rattle.model.specs.Reports.{hasEos, finishAnswers, finishLeaves, onFinish, onDrained}
 use Rattle.model.specs.Steps.{Act, command, finish, drained, serve}
 use Rattle.model.specs.Ledger.{Awaited, toBuffer, toDrain, awaitedBy, isBufferOf, isDrain, resourceIn, completes, stepTicket, ownTickets}
 use Rattle.model.proofs.Slots.{byRes, Distinct, queued-stop, queued-free, queued-add, queued-finish, queued-only, queued-more, isRes}
-use Rattle.model.proofs.Origins.{eos-ticket, named-cases, finish-cases, drained-cases}
+use Rattle.model.proofs.Origins.{named-cases, finish-cases, drained-cases}
 use Rattle.model.proofs.Rules.{by-type, named-number}
 use Rattle.model.proofs.Seen.{NotAgain}
 use Rattle.model.proofs.LedgerView.{View, pick, bufferTickets, ticketsOf, viewAfter, ticketsCompleted}
@@ -36,7 +36,7 @@ Sane (some b) = Distinct (b .inputs .slots) × Distinct (b .outputs .slots)
 -- what is pending by a record
 unfoldable pub holding : Option Stream → View
 holding none = record { queued = λ q. []; drains = [] }
-holding (some b) = record { queued = λ q. buffers q b; drains = toList (drainTicket b) }
+holding (some b) = record { queued = λ q. buffers q b; drains = toList (b .draining) }
 
 abbrev pub isFailure : Response → Bool
 isFailure success = false
@@ -135,7 +135,7 @@ tickets-drain n (some t) = refl
 
 -- what is pending where one queue is changed: that queue's, and the other's as before
 view-with : (q : QueueType) (x : Queue) (b : Stream) (g : QueueType → List Buffer) (d : List ℕ) → byResource (queuedIn (x .slots)) ≡ g q
-    → ((o : QueueType) → eqb (queueNumber q) (queueNumber o) ≡ false → buffers o b ≡ g o) → toList (drainTicket b) ≡ d
+    → ((o : QueueType) → eqb (queueNumber q) (queueNumber o) ≡ false → buffers o b ≡ g o) → toList (b .draining) ≡ d
     → holding (some (withQueue q x b)) ≡ record { queued = g; drains = d }
 unfolding holding
 view-with input x b g d here other e = λ i. record { queued = λ o. at o i; drains = e i }
@@ -151,7 +151,7 @@ view-with output x b g d here other e = λ i. record { queued = λ o. at o i; dr
 
 same-queued : (q : QueueType) (x : Queue) (b : Stream) → queuedIn (x .slots) ≡ queuedIn (queueOf q b .slots) → holding (some (withQueue q x b)) ≡ holding (some b)
 unfolding holding
-same-queued q x b h = view-with q x b (λ o. buffers o b) (toList (drainTicket b)) (ap byResource h) (λ o _. refl) refl
+same-queued q x b h = view-with q x b (λ o. buffers o b) (toList (b .draining)) (ap byResource h) (λ o _. refl) refl
 
 sane-of : (q : QueueType) (b : Stream) → Sane (some b) → Distinct (queueOf q b .slots)
 sane-of input b s = s .0
@@ -183,7 +183,7 @@ buffers-drain d b input = sym (keep-const true (buffers input b))
 buffers-drain d b output = sym (keep-const true (buffers output b))
 
 -- an accepted drain
-drain-fits : (n t : ℕ) (b : Stream) → drainTicket b ≡ none → Fits (λ x. false) (some toDrain) n t (me t true) (some b) (reply [] (some (withDrain (some t) b)))
+drain-fits : (n t : ℕ) (b : Stream) → b .draining ≡ none → Fits (λ x. false) (some toDrain) n t (me t true) (some b) (reply [] (some (withDrain (some t) b)))
 unfolding holding
 drain-fits n t b d =
     record {
@@ -213,7 +213,7 @@ clear-told : (q : QueueType) (n t : ℕ) (b : Stream)
     → answerTickets (stoppedAnswers n q (buffers q b) ++ (drainAnswers n (drainEnded (isInput q) b) ++ record { ticket = t; stream = n; response = success } ∷ []))
     ≡ ticketsOf (pick (clears (queueNumber q)) (holding (some b))) ++ t ∷ []
 unfolding holding
-clear-told input n t b = simp (map-append, tickets-stopped, tickets-drain, keep-const true (buffers input b), keep-const false (buffers output b), append-assoc)
+clear-told input n t b = simp (map-append, tickets-stopped, tickets-drain n (drainEnded true b), keep-const true (buffers input b), keep-const false (buffers output b), append-assoc)
 clear-told output n t b = simp (map-append, tickets-stopped, keep-const true (buffers output b), keep-const false (buffers input b), append-nil)
 
 clear-fits : (q : QueueType) (n t : ℕ) (b : Stream)
@@ -237,62 +237,92 @@ destroy-fits c b =
     let n = c .stream in
     record {
       acc = true;
-      is = simp (any-append fails, fine-stopped n input (buffers input b), fine-stopped n output (buffers output b), fine-drain n (drainTicket b));
+      is = simp (any-append fails, fine-stopped n input (buffers input b), fine-stopped n output (buffers output b), fine-drain n (b .draining));
       held = λ i. record { queued = λ q. sym (keep-const false (buffers q b)) i; drains = [] };
       told = simp (map-append, tickets-stopped, tickets-drain, keep-const true (buffers input b), keep-const true (buffers output b), append-assoc);
       adds = λ _. refl;
       rejected = λ z. never z;
     }
 
--- EOS given for a drain changes nothing of what is pending
-noted-holds : (flags : ℕ) (b : Stream) → holding (some (noteEos flags b)) ≡ holding (some b)
-unfolding holding
-noted-holds flags b = cond-elim (λ (x : Stream). holding (some x) ≡ holding (some b)) (hasEos flags) (λ _ i. record { queued = λ q. same-buffers q i; drains = toList (eos-ticket b i) }) (λ _. refl)
-  where
-    same-buffers : (q : QueueType) → buffers q (withEos b) ≡ buffers q b
-    same-buffers input = refl
-    same-buffers output = refl
+-- an accepted finish report: its buffer, and the drain where it ends it
+abbrev finishes : ℕ → ℕ → Bool → Awaited → Bool
+finishes qt r ends x = (isBufferOf qt x && eqb (resourceIn x) r) || (ends && isDrain x)
 
--- an accepted finish report
-abbrev finishes : ℕ → ℕ → Awaited → Bool
-finishes qt r x = isBufferOf qt x && eqb (resourceIn x) r
+-- its buffer, by the queue
+abbrev isFinished : ℕ → ℕ → QueueType → Buffer → Bool
+isFinished qt r o x = eqb (queueNumber o) qt && isRes r x
+
+-- the part of a view that passes a test, by what the test says of the buffers
+pick-as : (t : Awaited → Bool) (u : QueueType → Buffer → Bool) (v : View) → ((o : QueueType) (x : Buffer) → t (toBuffer (queueNumber o) (x .resource) (x .timestamp)) ≡ u o x)
+    → pick t v ≡ record { queued = λ o. keep (u o) (v .queued o); drains = cond (t toDrain) (v .drains) [] }
+pick-as t u v h = λ i. record { queued = λ o. keep-ext (λ x. t (toBuffer (queueNumber o) (x .resource) (x .timestamp))) (u o) (h o) (v .queued o) i; drains = cond (t toDrain) (v .drains) [] }
 
 one-of : (i : Buffer) → byResource (i ∷ []) ≡ i ∷ []
 unfolding insertBy
 one-of i = refl
 
-finish-told : (q : QueueType) (r : ℕ) (i : Buffer) (b : Stream) → Sane (some b) → bufferOf r (queuedIn (queueOf q b .slots)) ≡ some i
-    → i .ticket ∷ [] ≡ ticketsOf (pick (finishes (queueNumber q) r) (holding (some b)))
-unfolding holding
-finish-told q r i b s f = go q refl
-  where
-    out : keep (isRes r) (buffers q b) ≡ i ∷ []
-    out = keep-ascending byRes (isRes r) (queuedIn (queueOf q b .slots)) ∙ ap byResource (queued-only r i (queueOf q b .slots) (sane-of q b s) f) ∙ one-of i
+module _ (q : QueueType) (n r : ℕ) (ends : Bool) (b : Stream) where
+  abbrev done : Awaited → Bool
+  done = finishes (queueNumber q) r ends
 
-    go : (o : QueueType) → q ≡ o → i .ticket ∷ [] ≡ ticketsOf (pick (finishes (queueNumber q) r) (record { queued = λ x. buffers x b; drains = toList (drainTicket b) }))
-    go input e = simp (e, subst (λ (x : QueueType). keep (isRes r) (buffers x b) ≡ i ∷ []) e out, keep-const false (buffers output b))
-    go output e = simp (e, subst (λ (x : QueueType). keep (isRes r) (buffers x b) ≡ i ∷ []) e out, keep-const false (buffers input b))
+  abbrev mine : QueueType → Buffer → Bool
+  mine = isFinished (queueNumber q) r
 
-finish-fits : (q : QueueType) (n r flags : ℕ) (a : Answer) (i : Buffer) (b : Stream) → Sane (some b) → bufferOf r (queuedIn (queueOf q b .slots)) ≡ some i
-    → a .ticket ≡ i .ticket → fails a ≡ false
-    → Fits (finishes (queueNumber q) r) none n 0 nobody (some b) (reply (a ∷ []) (some (finishLeaves r flags b q)))
-unfolding holding
-finish-fits q n r flags a i b s f k e =
-    let x = queueOf q b .slots in
+  finish-told : (i : Buffer) → Sane (some b) → bufferOf r (queuedIn (queueOf q b .slots)) ≡ some i
+      → i .ticket ∷ answerTickets (drainAnswers n (drainEnded ends b)) ≡ ticketsOf (pick done (holding (some b)))
+  unfolding holding
+  finish-told i s f =
+      ap (λ l. i .ticket ∷ l) (tickets-drain n (drainEnded ends b) ∙ drains-ended ends)
+      ∙ go q refl
+      ∙ ap ticketsOf (sym (pick-as done mine (holding (some b)) (λ o x. simp (and-false ends, or-false (mine o x)))))
+    where
+      out : keep (isRes r) (buffers q b) ≡ i ∷ []
+      out = keep-ascending byRes (isRes r) (queuedIn (queueOf q b .slots)) ∙ ap byResource (queued-only r i (queueOf q b .slots) (sane-of q b s) f) ∙ one-of i
+
+      drains-ended : (x : Bool) → toList (drainEnded x b) ≡ cond (x && true) (toList (b .draining)) []
+      drains-ended true = refl
+      drains-ended false = refl
+
+      go : (o : QueueType) → q ≡ o → i .ticket ∷ cond (ends && true) (toList (b .draining)) []
+          ≡ ticketsOf (record { queued = λ x. keep (mine x) (buffers x b); drains = cond (ends && true) (toList (b .draining)) [] })
+      go input e = simp (e, subst (λ (x : QueueType). keep (isRes r) (buffers x b) ≡ i ∷ []) e out, keep-const false (buffers output b))
+      go output e = simp (e, subst (λ (x : QueueType). keep (isRes r) (buffers x b) ≡ i ∷ []) e out, keep-const false (buffers input b))
+
+  finish-held : holding (some (withQueue q (withSlots (setState r dequeued (queueOf q b .slots)) (queueOf q b)) (withoutEnded ends b))) ≡ viewAfter done none 0 true (holding (some b))
+  unfolding holding
+  finish-held =
+      let x = queueOf q b .slots in
+      view-with q (withSlots (setState r dequeued x) (queueOf q b)) (withoutEnded ends b) _ _
+      (simp (eqb-same (queueNumber q)) (ap byResource (queued-finish r x) ∙ sym (keep-ascending byRes (λ y. not (isRes r y)) (queuedIn x))))
+      (λ o h. simp (eqb-sym (queueNumber q) (queueNumber o) h) (same-buffers ends o ∙ sym (keep-const true (buffers o b)))) (drains-left ends)
+      ∙ sym (pick-as (λ w. not (done w)) (λ o y. not (mine o y)) (holding (some b)) (λ o y. simp (and-false ends, or-false (mine o y))))
+    where
+      same-buffers : (e : Bool) (o : QueueType) → buffers o (withoutEnded e b) ≡ buffers o b
+      same-buffers true input = refl
+      same-buffers true output = refl
+      same-buffers false o = refl
+
+      drains-left : (e : Bool) → toList (withoutEnded e b .draining) ≡ cond (not (e && true)) (toList (b .draining)) []
+      drains-left true = refl
+      drains-left false = refl
+
+pub finish-accepted : (n flags ts : ℕ) (b : Stream) (q : QueueType) (i : Buffer) (next : Option Stream) → acceptedReply (reply (finishAnswers n flags ts b q i) next) ≡ true
+finish-accepted n flags ts b q i next = simp (fine-drain n (drainEnded (hasEos flags) b))
+
+finish-fits : (q : QueueType) (n r flags ts : ℕ) (i : Buffer) (b : Stream) → Sane (some b) → bufferOf r (queuedIn (queueOf q b .slots)) ≡ some i
+    → Fits (finishes (queueNumber q) r (hasEos flags)) none n 0 nobody (some b) (reply (finishAnswers n flags ts b q i) (some (finishLeaves r flags b q)))
+finish-fits q n r flags ts i b s f =
     record {
       acc = true;
-      is = simp e;
-      held = noted-holds flags (withQueue q (withSlots (setState r dequeued x) (queueOf q b)) b)
-          ∙ view-with q (withSlots (setState r dequeued x) (queueOf q b)) b _ _
-          (simp (eqb-same (queueNumber q)) (ap byResource (queued-finish r x) ∙ sym (keep-ascending byRes (λ y. not (isRes r y)) (queuedIn x))))
-          (λ o h. simp (eqb-sym (queueNumber q) (queueNumber o) h) (sym (keep-const true (buffers o b)))) refl;
-      told = ap (λ (y : ℕ). y ∷ []) k ∙ finish-told q r i b s f ∙ sym (append-nil (ticketsOf (pick (finishes (queueNumber q) r) (holding (some b)))));
+      is = finish-accepted n flags ts b q i (some (finishLeaves r flags b q));
+      held = finish-held q n r (hasEos flags) b;
+      told = finish-told q n r (hasEos flags) b i s f ∙ sym (append-nil _);
       adds = λ _. refl;
       rejected = λ z. never z;
     }
 
 -- an accepted drained report
-drained-fits : (n t : ℕ) (b : Stream) → drainTicket b ≡ some t
+drained-fits : (n t : ℕ) (b : Stream) → b .draining ≡ some t
     → Fits isDrain none n 0 nobody (some b) (reply (record { ticket = t; stream = n; response = drainDone } ∷ []) (some (withDrain none b)))
 unfolding holding
 drained-fits n t b d =
@@ -475,18 +505,18 @@ module _ (around : Surroundings) (n t : ℕ) (f : List ℕ) where
 
 module _ (n qt r flags ts : ℕ) where
   abbrev FinishFits : Option Stream → Reply → Type 0
-  FinishFits self v = Fits (finishes qt r) none n 0 nobody self v
+  FinishFits self v = Fits (finishes qt r (hasEos flags)) none n 0 nobody self v
 
   not-finished : (self : Option Stream) (k : ℕ) → eqb k 0 ≡ false → FinishFits self (refuse k self)
-  not-finished self k z = refuse-fits (finishes qt r) none n 0 k self z
+  not-finished self k z = refuse-fits (finishes qt r (hasEos flags)) none n 0 k self z
 
   finished : (self : Option Stream) → Sane self → FinishFits self (onFinish n qt r flags ts self)
   finished self s =
       finish-cases (FinishFits self) n qt r flags ts self (not-finished self 5 refl) (not-finished self 6 refl)
-      (λ b q i h. let a : Answer = record { ticket = i .ticket; stream = n; response = bufferDone q (timestampOf q i ts) flags } in
-      subst (λ (x : Option Stream). FinishFits x (reply (a ∷ []) (some (finishLeaves r flags b q)))) (sym (h .self-is))
-      (subst (λ (x : ℕ). Fits (finishes x r) none n 0 nobody (some b) (reply (a ∷ []) (some (finishLeaves r flags b q)))) (sym (named-number qt q (h .named-is)))
-      (finish-fits q n r flags a i b (subst Sane (h .self-is) s) (h .waits-is) refl refl)))
+      (λ b q i h. let v = reply (finishAnswers n flags ts b q i) (some (finishLeaves r flags b q)) in
+      subst (λ (x : Option Stream). FinishFits x v) (sym (h .self-is))
+      (subst (λ (x : ℕ). Fits (finishes x r (hasEos flags)) none n 0 nobody (some b) v) (sym (named-number qt q (h .named-is)))
+      (finish-fits q n r flags ts i b (subst Sane (h .self-is) s) (h .waits-is))))
 
 drained-in : (n : ℕ) (self : Option Stream) → Fits isDrain none n 0 nobody self (onDrained n self)
 drained-in n self =

@@ -1,386 +1,389 @@
--- No drain is said to be done without its last picture: an accepted drained report answers the one drain that is pending, and since that drain
--- was accepted EOS was given once, or at most once where there is no output resource.
+-- The last picture and its drain are answered in one step: which events answer a drain, and that after a picture with EOS none is pending.
 use Prim.Native.Nat.{ℕ, suc, _+_, _≤_}
 use native.Mathlib.Omega.{arith}
 use mathlib.Core.Path.{_≡_, refl, sym, ap, ap₂, _∙_, subst}
-use mathlib.Core.Bool.{Bool, true, false, cond, not, _&&_, _||_, and-false, or-false}
-use mathlib.Core.Option.{Option, none, some, Option·map}
-use mathlib.Core.List.{List, [], _∷_, _++_, append-nil}
-use lib.ListN.{length, length-map}
-use lib.Dec.{eqb}
-use borrow.Author.Tests.{eqb-true, not-false}
-use Rattle.laws.specs.Lists.{keep, anyOf, howMany, isEmpty, isNone, toList}
-use Rattle.laws.proofs.Tests.{never, and-left, and-right}
-use Rattle.laws.proofs.Lists.{decide, cond-elim, eqb-same, no-element, keep-ext, keep-const, keep-keep, keep-append, keep-comm, keep-whole}
-use Rattle.laws.proofs.InOrder.{tests-cases, tests-all}
-use Rattle.field.specs.Field.{field}
-use Rattle.model.specs.Device.{QueueType, input, output, Slot, free, resource, Queue, PendingDrain, newDrain, giveEos, ticketOf, eosGivenFor, Stream, Device, fresh, withQueue, eosGivenIn, queuedIn, slotNumber, noResource, recordOf}
-use Rattle.model.specs.Frames.{QueueCommand, createResource, queueResource, destroyAll, clear, getParameters, setParameters, queueNumber}
-use Rattle.model.specs.Replies.{Reply, Request, fail}
-use Rattle.model.specs.Commands.{Surroundings, onCreate, onDestroy, onDrain, onCreateResource, onQueue, onDestroyAll, onClear, onGet, onSet, onQueueOf, onLive, onCommand}
-use Rattle.model.specs.Reports.{hasEos, badEos, finishLeaves, drainOver}
-use Rattle.model.specs.Steps.{Act, command, finish, drained, Step, serve, DeviceReply, around, performOf, stepOn, Event, eventOf, eventsOf, final, accepted}
+use mathlib.Core.Bool.{Bool, true, false, cond, not, _&&_, and-false, or-false}
+use mathlib.Core.Option.{Option, none, some}
+use mathlib.Core.List.{List, [], _∷_, _++_, map, append-nil, map-append, head-eq-of-cons-eq, tail-eq-of-cons-eq}
+use lib.ListN.{length, length-map, length-append}
+use lib.Dec.{eqb, leb}
+use borrow.Author.Tests.{eqb-true, leb-true, le-leb, not-true, not-false}
+use Rattle.laws.specs.Lists.{keep, anyOf, allOf, isEmpty, isNone, toList}
+use Rattle.laws.proofs.Tests.{never, both, and-left, and-right}
+use Rattle.laws.proofs.Lists.{decide, no-element, one-element, empty-is, keep-ext, keep-keep, keep-excluded, any-none, all-append, all-keep, all-kept}
+use Rattle.laws.proofs.Ascending.{all-ascending, length-ascending}
+use Rattle.field.specs.Field.{field, littleEndian}
+use Rattle.model.specs.Numbers.{tableWords}
+use Rattle.model.specs.Device.{QueueType, input, output, Slot, free, resource, Stream, Device, fresh, Buffer, queuedIn, byResource, buffers, slotNumber, noResource, recordOf}
+use Rattle.model.specs.Answers.{bufferDone, drainDone, Answer, responseBytes, bytesOf}
+use Rattle.model.specs.Replies.{Reply, reply}
+use Rattle.model.specs.Commands.{Surroundings}
+use Rattle.model.specs.Reports.{inputQueued, finishAnswers, finishLeaves}
+use Rattle.model.specs.Steps.{Act, command, finish, drained, Step, serve, around, DeviceReply, performOf, stepOn, Event, eventOf, final, accepted}
 use Rattle.model.specs.WellFormed.{wellFormed, goodAct, goodSteps}
-use Rattle.model.specs.Ledger.{noted, Awaited, toBuffer, toDrain, Pending, Ledger, stepStream, stepTicket, awaitedBy, pending, adds, isDrain, completes, completedBy, awaits, inOrder, ledgerAfter, completed, notedOf, ledgerFrom, ledgerOf}
+use Rattle.model.specs.Ledger.{noted, Awaited, toBuffer, toDrain, Pending, Ledger, stepStream, awaitedBy, isBufferOf, isDrain, resourceIn, completes, completedBy, byNumber, awaits, inOrder, ledgerAfter, completed, ownTickets, notedOf, ledgerFrom, ledgerOf, tickets}
 use Rattle.model.specs.Tables.{Layout, Lawful}
-use Rattle.model.specs.Condition3.{stepsOf, Run}
-use Rattle.model.specs.Promises.{isEosFinish, givesEos, hasOutputs, Acceptance, LastPicture, NoDrainWithoutLast}
-use Rattle.model.proofs.LedgerView.{View, viewOf, isTo}
+use Rattle.model.specs.Condition3.{Run, stepsOf, onTable}
+use Rattle.model.specs.Promises.{asWritten, hasOutputs, isPending, LastPicture, EndsDrain, byClear, byDestruction, byReport, behindPicture, DrainsEnd, NotDraining, NoDrainAfterEos}
+use Rattle.model.proofs.LedgerView.{View, awaitedBuffer, buffersIn, ticketsIn, viewOf, isTo}
 use Rattle.model.proofs.Fits.{acceptedReply, holding}
 use Rattle.model.proofs.Rules.{named-number}
-use Rattle.model.proofs.Seen.{own-record, other-record}
-use Rattle.model.proofs.Origins.{command-cases, live-cases, finish-cases, DrainedTaken, drained-cases, step-cases}
-use Rattle.model.proofs.WellFormed.{well-fresh}
+use Rattle.model.proofs.Seen.{own-record}
+use Rattle.model.proofs.Origins.{FinishTaken, finish-cases, drained-cases, step-cases}
 use Rattle.model.proofs.ReadBack.{read-back}
-use Rattle.model.proofs.Condition3.{accepted-is, step-stream-is, Agree, agree-fresh, agree-step}
-use Rattle.model.proofs.Tables.{final-well, same-events, same-run, parted}
+use Rattle.model.proofs.Condition3.{accepted-is, Agree, step-stream-is, as-expected, agree-end, agree-fresh, is-drain}
+use Rattle.model.proofs.Tables.{same-events, same-run, Parted, parted}
 use Rattle.model.proofs.Unchanged.{acceptedDeviceReply}
 
--- A pending drain by its record
+-- What a step completes
 
-abbrev drainHeld : Option Stream → Option PendingDrain
-drainHeld none = none
-drainHeld (some b) = b .draining
+-- the key by which they are sorted
+abbrev resourceOf : Pending → ℕ
+resourceOf p = resourceIn (p .awaited)
 
--- how often EOS was given for it, by its mark
-abbrev timesGiven : PendingDrain → ℕ
-timesGiven d = cond (d .eosGiven) 1 0
+all-inOrder : (p : Pending → Bool) (l : List Pending) → allOf p l ≡ true → allOf p (inOrder l) ≡ true
+unfolding inOrder
+all-inOrder p l h =
+    all-append p (queue 0x100) (queue 0x101 ++ keep (awaits isDrain) l)
+    ∙ both (of 0x100) (all-append p (queue 0x101) (keep (awaits isDrain) l) ∙ both (of 0x101) (all-keep p (awaits isDrain) l h))
+  where
+    queue : ℕ → List Pending
+    queue qt = byNumber (keep (awaits (isBufferOf qt)) l)
 
-at-most-once : (d : PendingDrain) → timesGiven d ≤ 1
-at-most-once d = cond-elim (λ (x : ℕ). x ≤ 1) (d .eosGiven) (λ _. omega arith) (λ _. omega arith)
+    of : (qt : ℕ) → allOf p (queue qt) ≡ true
+    of qt = all-ascending resourceOf p (keep (awaits (isBufferOf qt)) l) (all-keep p (awaits (isBufferOf qt)) l h)
 
--- The mark counts EOS
+-- what all pass, a drain among them passes
+drain-among : (p : Awaited → Bool) (l : List Pending) → allOf (awaits p) l ≡ true → anyOf (awaits isDrain) l ≡ true → p toDrain ≡ true
+drain-among p [] h e = never (sym e)
+drain-among p (x ∷ l) h e =
+    decide (isDrain (x .awaited))
+    (λ i. ap p (sym (is-drain (x .awaited) i)) ∙ and-left (p (x .awaited)) (allOf (awaits p) l) h)
+    (λ i. drain-among p l (and-right (p (x .awaited)) (allOf (awaits p) l) h) (simp i at e))
 
--- after a step that gives EOS or not, and where `old` was pending before it: no drain is left, or one begins without EOS, or `old` stays and has one EOS
--- more where the step gives it
-abbrev Counts : Bool → Option PendingDrain → Option PendingDrain → Type 0
-Counts gives none old = Unit {0}
-Counts gives (some d) none = d .eosGiven ≡ false
-Counts gives (some d) (some old) = timesGiven old + cond gives 1 0 ≡ timesGiven d
+completes-drain : (a : Act) (l : Ledger) → anyOf (awaits isDrain) (inOrder (keep (completedBy a) l)) ≡ true → completes a toDrain ≡ true
+completes-drain a l =
+    drain-among (completes a) (inOrder (keep (completedBy a) l))
+    (all-inOrder (awaits (completes a)) (keep (completedBy a) l)
+    (all-kept (completedBy a) (awaits (completes a)) (λ p. and-right (isTo (stepStream a) p) (completes a (p .awaited))) l))
 
-still : (d : Option PendingDrain) → Counts false d d
-still none = tt
-still (some d) = omega arith
+-- only an accepted step completes anything
+only-accepted : (acc : Bool) (l : List Pending) → anyOf (awaits isDrain) (cond acc l []) ≡ true → (acc ≡ true) × (anyOf (awaits isDrain) l ≡ true)
+only-accepted true l h = (refl, h)
+only-accepted false l h = never (sym h)
 
-queue-still : (q : QueueType) (x : Queue) (b : Stream) → Counts false (withQueue q x b .draining) (b .draining)
-queue-still input x b = still (b .draining)
-queue-still output x b = still (b .draining)
-
--- a command gives no EOS
-abbrev CountsNone : Option PendingDrain → Reply → Type 0
-CountsNone old v = Counts false (drainHeld (v .next)) old
-
-module _ (c : Request) (b : Stream) (self : c .self ≡ some b) where
-  not-changed : Counts false (drainHeld (c .self)) (b .draining)
-  not-changed = subst (λ (s : Option Stream). Counts false (drainHeld s) (b .draining)) (sym self) (still (b .draining))
-
-  queue-counts : (k : QueueCommand) (q : QueueType) → CountsNone (b .draining) (onQueueOf k c b q)
-  unfolding onCreateResource onQueue onDestroyAll onClear onGet onSet
-  queue-counts createResource q = tests-all (CountsNone (b .draining)) (fail c) _ (λ e. not-changed) (queue-still q _ b)
-  queue-counts queueResource q = tests-all (CountsNone (b .draining)) (fail c) _ (λ e. not-changed) (queue-still q _ b)
-  queue-counts destroyAll q = tests-all (CountsNone (b .draining)) (fail c) _ (λ e. not-changed) (queue-still q _ b)
-  queue-counts clear input = tt
-  queue-counts clear output = still (b .draining)
-  queue-counts getParameters q = not-changed
-  queue-counts setParameters q = tests-all (CountsNone (b .draining)) (fail c) _ (λ e. not-changed) (queue-still q _ b)
-
-  -- a drain begins only where none is pending
-  drain-counts : CountsNone (b .draining) (onDrain c b)
-  unfolding onDrain
-  drain-counts = tests-cases (CountsNone (b .draining)) (fail c) _ (λ e. not-changed) (λ h. begins (b .draining) (not-false _ h))
-    where
-      begins : (d : Option PendingDrain) → isNone (ticketOf d) ≡ true → Counts false (some (newDrain (c .ticket))) d
-      begins none h = refl
-      begins (some d) h = never (sym h)
-
-command-counts : (around : Surroundings) (c : Request) → CountsNone (drainHeld (c .self)) (onCommand around c)
-unfolding onCreate onDestroy
-command-counts around c =
-    let old = drainHeld (c .self) in
-    command-cases (CountsNone old) around c (λ e. still old) (λ _. tests-all (CountsNone old) (fail c) _ (λ e. still old) tt)
-    (λ k b e. subst (λ (s : Option Stream). CountsNone (drainHeld s) (onLive k c b)) (sym e)
-    (live-cases (CountsNone (b .draining)) c b (λ x. not-changed c b e) tt (drain-counts c b e) (queue-counts c b e) k))
-
--- EOS that is taken is the first for a pending drain
-first-counts : (d : Option PendingDrain) → (isNone (ticketOf d) || eosGivenFor d) ≡ false → Counts true (Option·map giveEos d) d
-first-counts none h = never h
-first-counts (some d) h = simp h
-
--- and an output's
-finish-counts : (m r flags ts : ℕ) (q : QueueType) (b : Stream) → badEos flags q b ≡ false
-    → Counts (isEosFinish m (finish m (queueNumber q) r flags ts) && true) (finishLeaves r flags b q .draining) (b .draining)
-finish-counts m r flags ts input b h = decide (hasEos flags) (λ z. never (simp z at h)) (λ z. simp (eqb-same m, z) (still (b .draining)))
-finish-counts m r flags ts output b h =
-    decide (hasEos flags) (λ z. simp (eqb-same m, z) (first-counts (b .draining) (simp z at h))) (λ z. simp (eqb-same m, z) (still (b .draining)))
-
--- a step that is not accepted gives no EOS
-none-given : (eos : Bool) (d : Option PendingDrain) → Counts (eos && false) d d
-none-given eos d = simp (and-false eos) (still d)
-
-abbrev CountsServed : Act → Option Stream → Reply → Type 0
-CountsServed a self v = Counts (isEosFinish (stepStream a) a && acceptedReply v) (drainHeld (v .next)) (drainHeld self)
-
-serve-counts : (around : Surroundings) (n : ℕ) (self : Option Stream) (a : Act) → CountsServed a self (serve around n self a)
-unfolding serve
-serve-counts around n self (command t f) = command-counts around (record { stream = n; ticket = t; frame = f; self = self })
-serve-counts around n self (finish m qt r flags ts) =
-    let a = finish m qt r flags ts in
-    let refused = none-given (isEosFinish m a) (drainHeld self) in
-    finish-cases (CountsServed a self) n qt r flags ts self refused refused
-    (λ b q i h. simp (h .self-is, named-number qt q (h .named-is)) (finish-counts m r flags ts q b (h .eos-fits)))
-serve-counts around n self (drained m) = drained-cases (CountsServed (drained m) self) n self (still (drainHeld self)) (λ b t h. tt)
-
--- and so on the device, of the drain of any stream n
-
-abbrev CountsOn : ℕ → Device → Act → DeviceReply → Type 0
-CountsOn n d a o = Counts (isEosFinish n a && acceptedDeviceReply o) (drainHeld (recordOf n (o .device .places))) (drainHeld (recordOf n (d .places)))
-
-other-eos : (n : ℕ) (a : Act) → eqb (stepStream a) n ≡ false → isEosFinish n a ≡ false
-other-eos n (command t f) h = refl
-other-eos n (finish m qt r flags ts) h = simp h
-other-eos n (drained m) h = refl
-
-perform-counts : (n : ℕ) (d : Device) (a : Act) → CountsOn n d a (performOf d a (some (stepStream a)))
-perform-counts n d a =
-    let m = stepStream a in
-    decide (eqb m n)
-    (λ e. subst (λ (x : ℕ). CountsOn x d a (performOf d a (some m))) (eqb-true m n e)
-    (simp (own-record m d a) (serve-counts (around d m) m (recordOf m (d .places)) a)))
-    (λ e. simp (other-eos n a e, other-record n m d a e) (still (drainHeld (recordOf n (d .places)))))
-
-step-counts : (n : ℕ) (d : Device) (s : Step) → wellFormed d ≡ true → goodAct (s .act) ≡ true
-    → Counts (givesEos n (eventOf s (stepOn d s))) (drainHeld (recordOf n (stepOn d s .device .places))) (drainHeld (recordOf n (d .places)))
-step-counts n d s h m =
-    let a = s .act in
-    subst (λ (acc : Bool). Counts (isEosFinish n a && acc) (drainHeld (recordOf n (stepOn d s .device .places))) (drainHeld (recordOf n (d .places))))
-    (sym (accepted-is s (stepOn d s) (read-back d s h m)))
-    (step-cases (CountsOn n d a) d s (λ k z. simp z (none-given (isEosFinish n a) (drainHeld (recordOf n (d .places)))))
-    (λ k o. subst (λ (x : ℕ). CountsOn n d a (performOf d a (some x))) (sym (step-stream-is a k o)) (perform-counts n d a)))
-
--- The drains of one stream in the ledger
+-- What a finish of the output r with EOS completes
 
 abbrev drainsTo : ℕ → List Pending → List Pending
 drainsTo n l = keep (awaits isDrain) (keep (isTo n) l)
 
--- there are as many as the record has, and it has at most one
-drains-held : (n : ℕ) (d : Device) (l : Ledger) → Agree d l → length (drainsTo n l) ≡ length (toList (ticketOf (drainHeld (recordOf n (d .places)))))
-unfolding viewOf holding
-drains-held n d l g = sym (length-map (drainsTo n l) (λ (p : Pending). p .ticket)) ∙ ap (λ (v : View). length (v .drains)) (g .sameView n) ∙ of (recordOf n (d .places))
-  where
-    of : (r : Option Stream) → length (holding r .drains) ≡ length (toList (ticketOf (drainHeld r)))
-    of none = refl
-    of (some b) = refl
+abbrev isPicture : ℕ → Awaited → Bool
+isPicture r w = isBufferOf 0x101 w && eqb (resourceIn w) r
 
-one-drain : (b : Option PendingDrain) → length (toList (ticketOf b)) ≤ 1
-one-drain none = omega arith
-one-drain (some b) = omega arith
+module _ (n r flags ts : ℕ) (last : leb 2 flags ≡ true) (l : Ledger) where
+  abbrev report : Act
+  report = finish n 0x101 r flags ts
 
--- what a step adds is no drain of n, or it is one
-added-cases : {P : Type 0} (n k t m : ℕ) (w : Option Awaited) → (drainsTo n (pending k t m w) ≡ [] → P)
-    → (w ≡ some toDrain → m ≡ n → drainsTo n (pending k t m w) ≡ pending k t m w → P) → P
-added-cases n k t m none other drain = other refl
-added-cases n k t m (some (toBuffer qt r ts)) other drain = other (decide (eqb m n) (λ e. simp e) (λ e. simp e))
-added-cases n k t m (some toDrain) other drain = decide (eqb m n) (λ e. drain refl (eqb-true m n e) (simp e)) (λ e. other (simp e))
+  abbrev done : List Pending
+  done = keep (completedBy report) l
 
--- a step that adds a drain completes nothing
-drain-only-adds : (a : Act) (w : Awaited) → awaitedBy a ≡ some toDrain → completes a w ≡ false
-unfolding awaitedBy completes
-drain-only-adds (command t f) w h =
-    decide (eqb (field 4 f 0) 0x0105)
-    (λ e. let z : some (toBuffer (field 4 f 8) (field 4 f 12) (field 8 f 16)) ≡ some toDrain = simp e at h in cc)
-    (λ e. decide (eqb (field 4 f 0) 0x0103) (λ i. simp (eqb-true (field 4 f 0) 0x0103 i)) (λ i. let z : none ≡ some toDrain = simp (e, i) at h in cc))
-drain-only-adds (finish n qt r flags ts) w h = cc
-drain-only-adds (drained n) w h = cc
+  abbrev pictures : List Pending
+  pictures = byNumber (keep (awaits (isBufferOf 0x101)) done)
 
--- the drains of n before a step and after one that leaves no fewer: the same, or with one that it added
-data Grown (n k : ℕ) (a : Act) (acc : Bool) (old now : List Pending) : Type 0 where
-  asBefore : now ≡ old → Grown n k a acc old now
-  oneMore : acc ≡ true → awaitedBy a ≡ some toDrain → stepStream a ≡ n → now ≡ adds k a ++ old → Grown n k a acc old now
+  no-input : keep (awaits (isBufferOf 0x100)) done ≡ []
+  unfolding completes
+  no-input = keep-excluded (completedBy report) (awaits (isBufferOf 0x100)) (λ p h. of (p .awaited) (and-right (isTo n p) (completes report (p .awaited)) h)) l
+    where
+      of : (w : Awaited) → completes report w ≡ true → isBufferOf 0x100 w ≡ false
+      of (toBuffer q m s) h = decide (eqb q 0x100) (λ e. never (sym (simp (eqb-true q 0x100 e, last) at h))) (λ e. e)
+      of toDrain h = refl
 
-module _ (n k : ℕ) (a : Act) (z : Bool) (l : Ledger) where
-  abbrev after : Bool → List Pending
-  after acc = drainsTo n (ledgerAfter (noted k a z acc) l)
+  all-drains : keep (awaits isDrain) done ≡ drainsTo n l
+  unfolding completes
+  all-drains =
+      keep-keep (awaits isDrain) (completedBy report) l
+      ∙ keep-ext (λ p. completedBy report p && awaits isDrain p) (λ p. isTo n p && awaits isDrain p) (λ p. of (isTo n p) (p .awaited)) l
+      ∙ sym (keep-keep (awaits isDrain) (isTo n) l)
+    where
+      of : (own : Bool) (w : Awaited) → (own && completes report w && isDrain w) ≡ (own && isDrain w)
+      of own (toBuffer q m s) = and-false (own && completes report (toBuffer q m s)) ∙ sym (and-false own)
+      of own toDrain = decide own (λ e. simp (e, last)) (λ e. simp e)
 
-  abbrev notCompleted : Pending → Bool
-  notCompleted p = not (completedBy a p)
+  done-inOrder : inOrder done ≡ pictures ++ drainsTo n l
+  unfolding inOrder
+  done-inOrder = ap₂ (λ (x y : List Pending). byNumber x ++ (pictures ++ y)) no-input all-drains
 
-  abbrev left : List Pending
-  left = keep notCompleted (drainsTo n l)
+  pictures-are : allOf (awaits (isPicture r)) pictures ≡ true
+  unfolding completes
+  pictures-are =
+      all-ascending resourceOf (awaits (isPicture r)) (keep (awaits (isBufferOf 0x101)) done)
+      (ap (allOf (awaits (isPicture r))) (keep-keep (awaits (isBufferOf 0x101)) (completedBy report) l)
+      ∙ all-kept (λ p. completedBy report p && awaits (isBufferOf 0x101) p) (awaits (isPicture r)) (λ p. of (isTo n p) (p .awaited)) l)
+    where
+      of : (own : Bool) (w : Awaited) → (own && completes report w && isBufferOf 0x101 w) ≡ true → isPicture r w ≡ true
+      of own (toBuffer q m s) h =
+          let w = toBuffer q m s in
+          simp (last, or-false (isPicture r w)) at (and-right own (completes report w) (and-left (own && completes report w) (isBufferOf 0x101 w) h))
+      of own toDrain h = never (sym (and-right (own && completes report toDrain) false h))
 
-  drains-after : after true ≡ drainsTo n (adds k a) ++ left
-  drains-after =
-      ap (keep (awaits isDrain)) (keep-append (isTo n) (adds k a) (keep notCompleted l))
-      ∙ keep-append (awaits isDrain) (keep (isTo n) (adds k a)) (keep (isTo n) (keep notCompleted l))
-      ∙ ap (λ (x : List Pending). drainsTo n (adds k a) ++ x)
-      (ap (keep (awaits isDrain)) (keep-comm (isTo n) notCompleted l) ∙ keep-comm (awaits isDrain) notCompleted (keep (isTo n) l))
+  -- no drain of the stream stays
+  none-left : (k : ℕ) (z : Bool) → isPending n isDrain (ledgerAfter (noted k report z true) l) ≡ false
+  unfolding awaitedBy completes
+  none-left k z =
+      let kept : Pending → Bool = λ p. not (completedBy report p) in
+      let drain : Pending → Bool = λ p. isTo n p && awaits isDrain p in
+      any-none drain (keep kept l) (keep-excluded kept drain (λ p. of (isTo n p) (p .awaited)) l)
+    where
+      of : (own : Bool) (w : Awaited) → not (own && completes report w) ≡ true → (own && isDrain w) ≡ false
+      of own (toBuffer q m s) h = and-false own
+      of own toDrain h = decide own (λ e. never (sym (simp (e, last) at h))) (λ e. simp e)
 
-  drains-grow : (acc : Bool) → length (drainsTo n l) ≤ length (after acc) → Grown n k a acc (drainsTo n l) (after acc)
-  drains-grow false h = asBefore refl
-  drains-grow true h =
-      added-cases n k (stepTicket a) (stepStream a) (awaitedBy a)
-      (λ e.
-      let is : after true ≡ left = drains-after ∙ ap (λ (x : List Pending). x ++ left) e in
-      asBefore (is ∙ keep-whole notCompleted (drainsTo n l) (subst (λ (x : List Pending). length (drainsTo n l) ≤ length x) is h)))
-      (λ w own e.
-      let all-left : left ≡ drainsTo n l =
-      keep-ext notCompleted (λ p. true) (λ p. simp (drain-only-adds a (p .awaited) w, and-false (eqb (p .stream) (stepStream a)))) (drainsTo n l)
-      ∙ keep-const true (drainsTo n l) in
-      oneMore refl w own (drains-after ∙ ap₂ (λ (x y : List Pending). x ++ y) e all-left))
+-- the answers to the picture and to the drain
+abbrev lastAnswers : (n flags ts s t : ℕ) → List Answer
+lastAnswers n flags ts s t = record { ticket = s; stream = n; response = bufferDone output ts flags } ∷ record { ticket = t; stream = n; response = drainDone } ∷ []
 
--- Lists
-
--- the drain c of n is pending after events, of which the first has number k, and one of them began it
-record Begun (n k : ℕ) (l : Ledger) (es : List Event) (c : PendingDrain) : Type 0 where
-  begin : Acceptance n es
-  inLedger : drainsTo n (ledgerFrom k l es) ≡ adds (k + length (begin .earlier)) (begin .acceptedBy .step .act)
-  counted : howMany (givesEos n) (begin .since) ≡ timesGiven c
-
--- by the drain that was pending before them: it is the same, or one of them began it
-data Came (n k : ℕ) (l : Ledger) (es : List Event) (c : PendingDrain) : Option PendingDrain → Type 0 where
-  atFirst : (b : PendingDrain) → drainsTo n (ledgerFrom k l es) ≡ drainsTo n l → timesGiven b + howMany (givesEos n) es ≡ timesGiven c → Came n k l es c (some b)
-  begun : {b : Option PendingDrain} → Begun n k l es c → Came n k l es c b
-
-module _ (n k : ℕ) (l : Ledger) (e : Event) (es : List Event) (c : PendingDrain) where
-  abbrev a : Act
-  a = e .step .act
-
-  abbrev next : Ledger
-  next = ledgerAfter (notedOf k e) l
-
-  -- the first event leaves the drain pending or begins it
-  first-came : (b : Option PendingDrain) (b′ : PendingDrain) → Counts (givesEos n e) (some b′) b
-      → length (drainsTo n l) ≡ length (toList (ticketOf b)) → length (drainsTo n next) ≡ 1 → Grown n k a (accepted e) (drainsTo n l) (drainsTo n next)
-      → drainsTo n (ledgerFrom (suc k) next es) ≡ drainsTo n next → timesGiven b′ + howMany (givesEos n) es ≡ timesGiven c → Came n k l (e ∷ es) c b
-  first-came none b′ m s s′ (asBefore g) d h = absurd (omega (arith, s, s′, ap length g))
-  first-came none b′ m s s′ (oneMore acc w own g) d h =
-      begun (record {
-        begin = record { earlier = []; acceptedBy = e; since = es; eventsAre = refl; isAccepted = acc; ofDrain = w; ofStream = own };
-        inLedger = d ∙ g ∙ ap (λ (x : List Pending). adds k a ++ x) (no-element (drainsTo n l) s) ∙ append-nil (adds k a) ∙ ap (λ (j : ℕ). adds j a) (omega arith);
-        counted = omega (arith, simp m at h);
-      })
-  first-came (some b) b′ m s s′ (asBefore g) d h = atFirst b (d ∙ g) (omega (arith, m, h))
-  first-came (some b) b′ m s s′ (oneMore acc w own g) d h =
-      let two : drainsTo n next ≡ pending k (stepTicket a) (stepStream a) (some toDrain) ++ drainsTo n l =
-      g ∙ ap (λ (x : Option Awaited). pending k (stepTicket a) (stepStream a) x ++ drainsTo n l) w in
-      absurd (omega (arith, s, s′, ap length two))
-
-  -- one event more in front
-  came-more : (b b′ : Option PendingDrain) → Counts (givesEos n e) b′ b
-      → length (drainsTo n l) ≡ length (toList (ticketOf b)) → length (drainsTo n next) ≡ length (toList (ticketOf b′)) → Came n (suc k) next es c b′ → Came n k l (e ∷ es) c b
-  came-more b _ m s s′ (atFirst b′ d h) =
-      first-came b b′ m s s′ (drains-grow n k a (eqb (e .refusal) 0) l (accepted e) (omega (arith, s, s′, one-drain b))) d h
-  came-more b b′ m s s′ (begun g) =
-      begun (record {
-        begin = record {
-          earlier = e ∷ g .begin .earlier;
-          acceptedBy = g .begin .acceptedBy;
-          since = g .begin .since;
-          eventsAre = ap (λ r. e ∷ r) (g .begin .eventsAre);
-          isAccepted = g .begin .isAccepted;
-          ofDrain = g .begin .ofDrain;
-          ofStream = g .begin .ofStream;
-        };
-        inLedger = g .inLedger ∙ ap (λ (j : ℕ). adds j (g .begin .acceptedBy .step .act)) (omega arith);
-        counted = g .counted;
-      })
-
--- so over a list: a drain that is pending at its end was pending at its start, or one of its events began it
-came : (n k : ℕ) (d : Device) (l : Ledger) (ss : List Step) (c : PendingDrain) → Agree d l → goodSteps ss ≡ true → drainHeld (recordOf n (final d ss .places)) ≡ some c
-    → Came n k l (eventsOf d ss) c (drainHeld (recordOf n (d .places)))
-came n k d l [] c g m is = subst (Came n k l [] c) (sym is) (atFirst c refl (omega arith))
-came n k d l (s ∷ ss) c g m is =
-    let good = and-left (goodAct (s .act)) (goodSteps ss) m in
-    let e = eventOf s (stepOn d s) in
-    let d′ = stepOn d s .device in
-    let l′ = ledgerAfter (notedOf k e) l in
-    let g′ = agree-step k d l s g good in
-    came-more n k l e (eventsOf d′ ss) c (drainHeld (recordOf n (d .places))) (drainHeld (recordOf n (d′ .places)))
-    (step-counts n d s (g .well) good) (drains-held n d l g) (drains-held n d′ l′ g′)
-    (came n (suc k) d′ l′ ss c g′ (and-right (goodAct (s .act)) (goodSteps ss) m) is)
-
--- The drained report
-
--- one that is accepted found its drain over
-abbrev FoundOver : Option Stream → Type 0
-FoundOver self = (b : Stream) × (t : ℕ) × DrainedTaken self b t
-
-drained-over : (n : ℕ) (d : Device) (s : Step) → wellFormed d ≡ true → goodAct (s .act) ≡ true → s .act ≡ drained n → accepted (eventOf s (stepOn d s)) ≡ true
-    → FoundOver (recordOf n (d .places))
-unfolding serve
-drained-over n d s h m a acc =
-    step-cases (λ (o : DeviceReply). acceptedDeviceReply o ≡ true → FoundOver (recordOf n (d .places))) d s
-    (λ k z y. never (sym (simp z at y)))
-    (λ k o y. subst (λ (x : ℕ). FoundOver (recordOf x (d .places))) (step-stream-is (s .act) k o ∙ ap stepStream a)
-    (of k (subst (λ (x : Act). acceptedDeviceReply (performOf d x (some k)) ≡ true) a y)))
-    (sym (accepted-is s (stepOn d s) (read-back d s h m)) ∙ acc)
-  where
-    of : (k : ℕ) → acceptedReply (serve (around d k) k (recordOf k (d .places)) (drained n)) ≡ true → FoundOver (recordOf k (d .places))
-    of k =
-        let self = recordOf k (d .places) in
-        drained-cases (λ (v : Reply). acceptedReply v ≡ true → FoundOver self) k self (λ y. never (sym y)) (λ b t h y. (b, t, h))
-
-has-drain : (d : Option PendingDrain) (t : ℕ) → ticketOf d ≡ some t → (c : PendingDrain) × (d ≡ some c)
-has-drain none t e = never (ap isNone e)
-has-drain (some c) t e = (c, refl)
-
--- where there are outputs, EOS was given for it
-once-given : (b : Stream) (c : PendingDrain) → drainOver b ≡ true → b .draining ≡ some c → hasOutputs (some b) ≡ true → timesGiven c ≡ 1
-once-given b c over is out =
-    let last : (eosGivenIn b || noResource (b .outputs .slots)) ≡ true = and-right (isEmpty (queuedIn (b .inputs .slots))) _ over in
-    simp (ap eosGivenFor (sym is) ∙ (simp (some-resource (b .outputs .slots) out, or-false (eosGivenIn b)) at last))
-  where
-    some-resource : (l : List Slot) → anyOf (λ (x : Slot). not (isNone (slotNumber x))) l ≡ true → noResource l ≡ false
-    some-resource [] h = never (sym h)
-    some-resource (free ∷ l) h = some-resource l h
-    some-resource (resource r p ∷ l) h = refl
-
--- it completes all drains of its stream, and a drain by itself is in order
-drained-completes : (n k : ℕ) (z : Bool) (l : Ledger) → completed (noted k (drained n) z true) l ≡ inOrder (drainsTo n l)
-unfolding completes
-drained-completes n k z l = ap inOrder (sym (keep-keep (awaits isDrain) (isTo n) l))
-
-drain-alone : (k t n : ℕ) (w : Option Awaited) → w ≡ some toDrain → inOrder (pending k t n w) ≡ pending k t n w
-unfolding inOrder
-drain-alone k t n w e = simp e
-
--- what is promised of an accepted report, from what came before it
-picture : (n : ℕ) (before : List Event) (e : Event) (b : Stream) (c : PendingDrain) → e .step .act ≡ drained n → accepted e ≡ true → drainOver b ≡ true → b .draining ≡ some c
-    → Came n 0 [] before c none → LastPicture n before e (some b)
-picture n before e b c a acc over is (begun g) =
-    let drain = g .begin .acceptedBy .step .act in
+-- what is promised of them, from the two parts of what is completed: pictures x and drains y, which have two tickets, and of these the drains one
+two-parts : (n r flags ts s t : ℕ) (before : List Event) (e : Event) (x y : List Pending) → completed (notedOf (length before) e) (ledgerOf before) ≡ x ++ y
+    → ticketsIn (x ++ y) ≡ s ∷ t ∷ [] → ticketsIn y ≡ t ∷ [] → allOf (awaits (isPicture r)) x ≡ true → allOf (awaits isDrain) y ≡ true
+    → e .bytes ≡ bytesOf (lastAnswers n flags ts s t) → isPending n (isBufferOf 0x100) (ledgerOf before) ≡ false → LastPicture n r flags ts before e
+unfolding responseBytes littleEndian
+two-parts n r flags ts s t before e x y is two one each-x each-y bytes inputs =
+    let q = one-element y (sym (length-map y (λ (p : Pending). p .ticket)) ∙ ap length one) in
+    let p = one-element x (omega (arith, length-append x y, ap length (q .1), length-map (x ++ y) (λ (p : Pending). p .ticket), ap length two)) in
+    let same : s ∷ t ∷ [] ≡ p .0 .ticket ∷ q .0 .ticket ∷ [] = sym two ∙ ap₂ (λ (a b : List Pending). ticketsIn (a ++ b)) (p .1) (q .1) in
     record {
-      acceptance = g .begin;
-      answers = simp (a, acc)
-          (drained-completes n (length before) (eqb (e .refusal) 0) (ledgerOf before)
-          ∙ ap inOrder (g .inLedger ∙ ap (λ (k : ℕ). adds k drain) (omega arith))
-          ∙ drain-alone (length (g .begin .earlier)) (stepTicket drain) (stepStream drain) (awaitedBy drain) (g .begin .ofDrain));
-      oneEos = λ out. g .counted ∙ once-given b c over is out;
-      atMostOne = omega (arith, g .counted, at-most-once c);
+      inputsAnswered = inputs;
+      picture = p .0;
+      itsDrain = q .0;
+      completesBoth = is ∙ ap₂ (λ (a b : List Pending). a ++ b) (p .1) (q .1);
+      ofOutput = and-left (isPicture r (p .0 .awaited)) true (ap (allOf (awaits (isPicture r))) (sym (p .1)) ∙ each-x);
+      ofDrain = is-drain (q .0 .awaited) (and-left (isDrain (q .0 .awaited)) true (ap (allOf (awaits isDrain)) (sym (q .1)) ∙ each-y));
+      writesBoth = bytes ∙ ap₂ (λ (a b : ℕ). bytesOf (lastAnswers n flags ts a b)) (head-eq-of-cons-eq same) (head-eq-of-cons-eq (tail-eq-of-cons-eq same));
     }
 
--- on a fresh device no drain is pending
-fresh-none : (n : ℕ) → drainHeld (recordOf n (fresh .places)) ≡ none
-unfolding fresh
-fresh-none n = refl
+-- What an accepted report found
 
--- and so over devices
-fresh-picture : (n : ℕ) (ss : List Step) (s : Step) → goodSteps ss ≡ true → goodAct (s .act) ≡ true → s .act ≡ drained n → accepted (eventOf s (stepOn (final fresh ss) s)) ≡ true
-    → LastPicture n (eventsOf fresh ss) (eventOf s (stepOn (final fresh ss) s)) (recordOf n (final fresh ss .places))
-fresh-picture n ss s m g a acc =
-    let before = eventsOf fresh ss in
-    let e = eventOf s (stepOn (final fresh ss) s) in
-    let found = drained-over n (final fresh ss) s (final-well fresh ss well-fresh m) g a acc in
-    let over = found .2 in
-    let drain = has-drain (found .0 .draining) (found .1) (over .drain-is) in
-    subst (LastPicture n before e) (sym (over .self-is))
-    (picture n before e (found .0) (drain .0) a acc (over .over-is) (drain .1)
-    (subst (Came n 0 [] before (drain .0)) (fresh-none n) (came n 0 fresh [] ss (drain .0) agree-fresh m (ap drainHeld (over .self-is) ∙ drain .1))))
+-- a step that is accepted is one of its stream, and is accepted there
+record Taken (d : Device) (s : Step) (n : ℕ) : Type 0 where
+  runs : stepOn d s ≡ performOf d (s .act) (some n)
+  replied : acceptedReply (serve (around d n) n (recordOf n (d .places)) (s .act)) ≡ true
 
-pub no-drain-without-last : (L : Layout) → Lawful L → NoDrainWithoutLast L
-no-drain-without-last L law t ss before later e n h m split a acc =
+taken : (d : Device) (s : Step) → wellFormed d ≡ true → goodAct (s .act) ≡ true → accepted (eventOf s (stepOn d s)) ≡ true → Taken d s (stepStream (s .act))
+taken d s h m acc =
+    step-cases (λ (o : DeviceReply). acceptedDeviceReply o ≡ true → stepOn d s ≡ o → Taken d s (stepStream (s .act))) d s
+    (λ k z y e. never (sym (simp z at y)))
+    (λ k o y e. subst (Taken d s) (step-stream-is (s .act) k o) (record { runs = e; replied = y }))
+    (sym (accepted-is s (stepOn d s) (read-back d s h m)) ∙ acc) refl
+
+-- a finish with EOS: no input is Queued; the tickets of an output and of the drain, which is then over
+record EosTaken (n qt flags ts : ℕ) (self : Option Stream) (v : Reply) : Type 0 where
+  isOutput : qt ≡ 0x101
+  inputs : holding self .queued input ≡ []
+  buffer : ℕ
+  drain : ℕ
+  held : holding self .drains ≡ drain ∷ []
+  answers : v .answers ≡ lastAnswers n flags ts buffer drain
+  left : NotDraining (v .next)
+
+no-inputs : (b : Stream) → inputQueued b ≡ false → buffers input b ≡ []
+no-inputs b h = ap byResource (empty-is (queuedIn (b .inputs .slots)) (not-false (isEmpty (queuedIn (b .inputs .slots))) h))
+
+eos-taken : (around : Surroundings) (n qt r flags ts : ℕ) (self : Option Stream) → leb 2 flags ≡ true → acceptedReply (serve around n self (finish n qt r flags ts)) ≡ true
+    → EosTaken n qt flags ts self (serve around n self (finish n qt r flags ts))
+unfolding serve holding
+eos-taken around n qt r flags ts self last =
+    finish-cases (λ (v : Reply). acceptedReply v ≡ true → EosTaken n qt flags ts self v) n qt r flags ts self (λ y. never (sym y)) (λ y. never (sym y))
+    (λ b q i h y. of b q i (b .draining) refl h)
+  where
+    of : (b : Stream) (q : QueueType) (i : Buffer) (t : Option ℕ) → b .draining ≡ t → FinishTaken self qt r flags b q i
+        → EosTaken n qt flags ts self (reply (finishAnswers n flags ts b q i) (some (finishLeaves r flags b q)))
+    of b input i t e h = never (simp last at (h .eos-fits))
+    of b output i none e h = never (simp (last, e) at (h .eos-fits))
+    of b output i (some t) e h =
+        record {
+          isOutput = named-number qt output (h .named-is);
+          inputs = ap (λ (x : Option Stream). holding x .queued input) (h .self-is) ∙ no-inputs b (simp last at (h .not-early));
+          buffer = i .ticket;
+          drain = t;
+          held = ap (λ (x : Option Stream). holding x .drains) (h .self-is) ∙ ap toList e;
+          answers = simp (last, e);
+          left = record { leftRecord = finishLeaves r flags b output; recordIs = refl; noDrain = simp last };
+        }
+
+-- a drained report: no input is Queued, and there is no output resource
+record OverTaken (self : Option Stream) : Type 0 where
+  stream : Stream
+  is : self ≡ some stream
+  inputs : holding self .queued input ≡ []
+  outputs : hasOutputs stream ≡ false
+
+over-taken : (around : Surroundings) (n : ℕ) (self : Option Stream) → acceptedReply (serve around n self (drained n)) ≡ true → OverTaken self
+unfolding serve holding
+over-taken around n self =
+    drained-cases (λ (v : Reply). acceptedReply v ≡ true → OverTaken self) n self (λ y. never (sym y))
+    (λ b t h y.
+    let none-queued = and-left (not (inputQueued b)) (noResource (b .outputs .slots)) (h .over-is) in
+    record {
+      stream = b;
+      is = h .self-is;
+      inputs = ap (λ (x : Option Stream). holding x .queued input) (h .self-is) ∙ no-inputs b (not-true (inputQueued b) none-queued);
+      outputs = of (b .outputs .slots) (and-right (not (inputQueued b)) (noResource (b .outputs .slots)) (h .over-is));
+    })
+  where
+    of : (l : List Slot) → noResource l ≡ true → anyOf (λ (x : Slot). not (isNone (slotNumber x))) l ≡ false
+    of [] h = refl
+    of (free ∷ l) h = of l h
+    of (resource r p ∷ l) h = never (sym h)
+
+-- the drains of a stream in the ledger are its record's
+drains-held : (n : ℕ) (d : Device) (l : Ledger) → Agree d l → ticketsIn (drainsTo n l) ≡ holding (recordOf n (d .places)) .drains
+unfolding viewOf
+drains-held n d l g = ap (λ (v : View). v .drains) (g .sameView n)
+
+-- and its pending inputs are its Queued ones
+inputs-held : (n : ℕ) (d : Device) (l : Ledger) → Agree d l → holding (recordOf n (d .places)) .queued input ≡ [] → isPending n (isBufferOf 0x100) l ≡ false
+unfolding viewOf
+inputs-held n d l g none-queued =
+    let pending-inputs = keep (awaits (isBufferOf 0x100)) (keep (isTo n) l) in
+    let none-pending : buffersIn input (keep (isTo n) l) ≡ [] = ap (λ (v : View). v .queued input) (g .sameView n) ∙ none-queued in
+    any-none (λ p. isTo n p && awaits (isBufferOf 0x100) p) l
+    (sym (keep-keep (awaits (isBufferOf 0x100)) (isTo n) l)
+    ∙ no-element pending-inputs (sym (length-ascending resourceOf pending-inputs) ∙ sym (length-map (byNumber pending-inputs) awaitedBuffer) ∙ ap length none-pending))
+
+-- A step on the device d, which the events `before` left
+
+module _ (before : List Event) (d : Device) (g : Agree d (ledgerOf before)) (room : List ℕ) where
+  abbrev k : ℕ
+  k = length before
+
+  abbrev l : Ledger
+  l = ledgerOf before
+
+  abbrev stepAt : Act → Step
+  stepAt a = record { act = a; room = room }
+
+  abbrev eventAt : Act → Event
+  eventAt a = eventOf (stepAt a) (stepOn d (stepAt a))
+
+  -- it answers a picture and its drain, and no drain stays
+  record EndsBoth (n r flags ts : ℕ) (a : Act) : Type 0 where
+    last-picture : LastPicture n r flags ts before (eventAt a)
+    ledger-left : isPending n isDrain (ledgerAfter (notedOf k (eventAt a)) l) ≡ false
+    record-left : NotDraining (recordOf n (stepOn d (stepAt a) .device .places))
+
+  module _ (n r flags ts : ℕ) (last : leb 2 flags ≡ true) where
+    abbrev a : Act
+    a = finish n 0x101 r flags ts
+
+    abbrev e : Event
+    e = eventAt a
+
+    output-ends : goodAct a ≡ true → accepted e ≡ true → EndsBoth n r flags ts a
+    unfolding ownTickets
+    output-ends m acc =
+        let t = taken d (stepAt a) (g .well) m acc in
+        let eos = eos-taken (around d n) n 0x101 r flags ts (recordOf n (d .places)) last (t .replied) in
+        let answers : stepOn d (stepAt a) .answers ≡ lastAnswers n flags ts (eos .buffer) (eos .drain) = ap (λ (o : DeviceReply). o .answers) (t .runs) ∙ eos .answers in
+        let parts : completed (notedOf k e) l ≡ pictures n r flags ts last l ++ drainsTo n l =
+        ap (λ (x : Bool). completed (noted k a (eqb (e .refusal) 0) x) l) acc ∙ done-inOrder n r flags ts last l in
+        record {
+          last-picture = two-parts n r flags ts (eos .buffer) (eos .drain) before e (pictures n r flags ts last l) (drainsTo n l) parts
+              (ap ticketsIn (sym parts)
+              ∙ sym (append-nil (ticketsIn (completed (notedOf k e) l)))
+              ∙ sym (as-expected k d l (stepAt a ∷ []) g (both m refl) .0)
+              ∙ ap tickets (read-back d (stepAt a) (g .well) m)
+              ∙ ap (λ (x : List Answer). tickets (map asWritten x)) answers)
+              (drains-held n d l g ∙ eos .held) (pictures-are n r flags ts last l) (all-kept (awaits isDrain) (awaits isDrain) (λ p h. h) (keep (isTo n) l)) (ap bytesOf answers)
+              (inputs-held n d l g (eos .inputs));
+          ledger-left = ap (λ (x : Bool). isPending n isDrain (ledgerAfter (noted k a (eqb (e .refusal) 0) x) l)) acc ∙ none-left n r flags ts last l k (eqb (e .refusal) 0);
+          record-left = subst NotDraining (sym (ap (λ (o : DeviceReply). recordOf n (o .device .places)) (t .runs) ∙ own-record n d a)) (eos .left);
+        }
+
+    -- a finish with EOS that is accepted is one of an output
+    eos-ends : (qt : ℕ) → goodAct (finish n qt r flags ts) ≡ true → accepted (eventAt (finish n qt r flags ts)) ≡ true
+        → (qt ≡ 0x101) × EndsBoth n r flags ts (finish n qt r flags ts)
+    eos-ends qt m acc =
+        let found = taken d (stepAt (finish n qt r flags ts)) (g .well) m acc in
+        let is = eos-taken (around d n) n qt r flags ts (recordOf n (d .places)) last (found .replied) .isOutput in (
+          is,
+          subst (λ (x : ℕ). goodAct (finish n x r flags ts) ≡ true → accepted (eventAt (finish n x r flags ts)) ≡ true → EndsBoth n r flags ts (finish n x r flags ts))
+              (sym is) output-ends m acc,
+        )
+
+  -- what answers a drain, by what the ledger says of it
+  ends : (a : Act) → goodAct a ≡ true → anyOf (awaits isDrain) (completed (notedOf k (eventAt a)) l) ≡ true → EndsDrain before (eventAt a) (recordOf (stepStream a) (d .places)) a
+  unfolding completes
+  ends a m h = let was = only-accepted (accepted (eventAt a)) (inOrder (keep (completedBy a) l)) h in of a m (was .0) (completes-drain a l (was .1))
+    where
+      of : (a : Act) → goodAct a ≡ true → accepted (eventAt a) ≡ true → completes a toDrain ≡ true → EndsDrain before (eventAt a) (recordOf (stepStream a) (d .places)) a
+      of (command t f) m acc c =
+          let ty = field 4 f 0 in
+          let qt = field 4 f 8 in
+          decide (eqb ty 0x0102) (λ e. byDestruction t f (eqb-true ty 0x0102 e)) (λ e.
+          let clears : (eqb ty 0x0107 && (eqb qt 0x100 && true)) ≡ true = simp e at c in
+          byClear t f (eqb-true ty 0x0107 (and-left (eqb ty 0x0107) (eqb qt 0x100 && true) clears))
+          (eqb-true qt 0x100 (and-left (eqb qt 0x100) true (and-right (eqb ty 0x0107) (eqb qt 0x100 && true) clears))))
+      of (finish n qt r flags ts) m acc c =
+          let last = and-left (leb 2 flags) true c in
+          let end = eos-ends n r flags ts last qt m acc in
+          subst (λ (x : ℕ). EndsDrain before (eventAt (finish n qt r flags ts)) (recordOf n (d .places)) (finish n x r flags ts)) (sym (end .0))
+          (behindPicture n r flags ts (leb-true 2 flags last) (end .1 .last-picture))
+      of (drained n) m acc c =
+          let over = over-taken (around d n) n (recordOf n (d .places)) (taken d (stepAt (drained n)) (g .well) m acc .replied) in
+          byReport n (over .stream) (over .is) (over .outputs) (inputs-held n d l g (over .inputs))
+
+-- One event more at the end of a list
+
+ledger-last : (j k : ℕ) (l : Ledger) (before : List Event) (e : Event) → j ≡ k + length before
+    → ledgerFrom k l (before ++ e ∷ []) ≡ ledgerAfter (notedOf j e) (ledgerFrom k l before)
+ledger-last j k l [] e i = ap (λ (x : ℕ). ledgerAfter (notedOf x e) l) (omega arith)
+ledger-last j k l (y ∷ before) e i = ledger-last j (suc k) (ledgerAfter (notedOf k y) l) before e (omega arith)
+
+final-last : (d : Device) (ss : List Step) (s : Step) → final d (ss ++ s ∷ []) ≡ stepOn (final d ss) s .device
+final-last d [] s = refl
+final-last d (x ∷ ss) s = final-last (stepOn d x .device) ss s
+
+-- Over tables
+
+agree-before : (before : List Event) (e : Event) → Parted fresh before e → Agree (final fresh (stepsOf before)) (ledgerOf before)
+agree-before before e p =
+    subst (λ (x : List Event). Agree (final fresh (stepsOf before)) (ledgerOf x)) (sym (p .first)) (agree-end 0 fresh [] (stepsOf before) agree-fresh (p .first-good))
+
+module _ (L : Layout) (law : Lawful L) (t : List ℕ) (h : tableWords ≤ length t) (n : ℕ) where
+  same-record : (ss : List Step) → goodSteps ss ≡ true → onTable L t ss .records n ≡ recordOf n (final fresh ss .places)
+  same-record ss m = ap (λ (r : Run). r .records n) (same-run L law t h ss m)
+
+  record-last : (before : List Event) (e : Event) → Parted fresh before e
+      → onTable L t (stepsOf (before ++ e ∷ [])) .records n ≡ recordOf n (stepOn (final fresh (stepsOf before)) (e .step) .device .places)
+  record-last before e p =
+      let ss = stepsOf before in
+      ap (λ (x : List Step). onTable L t x .records n) (map-append (λ (x : Event). x .step) before (e ∷ []))
+      ∙ same-record (ss ++ e .step ∷ []) (all-append (λ (s : Step). goodAct (s .act)) ss (e .step ∷ []) ∙ both (p .first-good) (both (p .next-good) refl))
+      ∙ ap (λ (x : Device). recordOf n (x .places)) (final-last fresh ss (e .step))
+
+pub drains-end : (L : Layout) → Lawful L → DrainsEnd L
+drains-end L law t ss before later e h m split ended =
     let p = parted fresh ss before later e m (sym (same-events L law t h ss m) ∙ split) in
-    let self = recordOf n (final fresh (stepsOf before) .places) in
-    subst (λ (r : Run). LastPicture n before e (r .records n)) (sym (same-run L law t h (stepsOf before) (p .first-good)))
-    (subst (λ (x : List Event). LastPicture n x e self) (sym (p .first))
-    (subst (λ (x : Event). LastPicture n (eventsOf fresh (stepsOf before)) x self) (sym (p .next-is))
-    (fresh-picture n (stepsOf before) (e .step) (p .first-good) (p .next-good) a (ap accepted (sym (p .next-is)) ∙ acc))))
+    let d = final fresh (stepsOf before) in
+    let a = e .step .act in
+    subst (λ (x : Option Stream). EndsDrain before e x a) (sym (same-record L law t h (stepStream a) (stepsOf before) (p .first-good)))
+    (subst (λ (x : Event). EndsDrain before x (recordOf (stepStream a) (d .places)) a) (sym (p .next-is))
+    (ends before d (agree-before before e p) (e .step .room) a (p .next-good)
+    (subst (λ (x : Event). anyOf (awaits isDrain) (completed (notedOf (length before) x) (ledgerOf before)) ≡ true) (p .next-is) ended)))
+
+pub no-drain-after-eos : (L : Layout) → Lawful L → NoDrainAfterEos L
+no-drain-after-eos L law t ss before later e n qt r flags ts h m split a many acc =
+    let p = parted fresh ss before later e m (sym (same-events L law t h ss m) ∙ split) in
+    let d = final fresh (stepsOf before) in
+    let g = agree-before before e p in
+    let room = e .step .room in
+    let is : e ≡ eventAt before d g room (finish n qt r flags ts) = p .next-is ∙ ap (eventAt before d g room) a in
+    let end = eos-ends before d g room n r flags ts (le-leb 2 flags many) qt (ap goodAct (sym a) ∙ p .next-good) (ap accepted (sym is) ∙ acc) .1 in (
+      subst (LastPicture n r flags ts before) (sym is) (end .last-picture),
+      ap (isPending n isDrain) (ledger-last (length before) 0 [] before e (omega arith))
+          ∙ ap (λ (x : Event). isPending n isDrain (ledgerAfter (notedOf (length before) x) (ledgerOf before))) is
+          ∙ end .ledger-left,
+      subst NotDraining
+          (sym (record-last L law t h n before e p ∙ ap (λ (x : Act). recordOf n (stepOn d (stepAt before d g room x) .device .places)) a))
+          (end .record-left),
+    )

@@ -2,7 +2,7 @@
 use Prim.Native.Nat.{ℕ, _+_}
 use mathlib.Core.Path.{_≡_, refl, sym, subst}
 use mathlib.Core.Bool.{true, false, cond, not}
-use mathlib.Core.Option.{Option, none, some, Option·map}
+use mathlib.Core.Option.{Option, none, some}
 use mathlib.Core.List.{[], _∷_}
 use lib.ListN.{length}
 use lib.Dec.{eqb, ltb}
@@ -11,30 +11,17 @@ use Rattle.laws.specs.InOrder.{byTests}
 use Rattle.laws.proofs.Lists.{cond-elim}
 use Rattle.tag.specs.Tag.{goodTag, tagIn}
 use Rattle.model.specs.Numbers.{tableWords, firstCoded, lastCoded, err, eos}
-use Rattle.model.specs.Device.{QueueType, PendingDrain, giveEos, ticketOf, Stream, Device, newStream, queueOf, drainTicket, withDrain, withEos, Buffer, queuedIn, bufferOf}
+use Rattle.model.specs.Device.{QueueType, Stream, Device, newStream, queueOf, withDrain, Buffer, queuedIn, bufferOf}
 use Rattle.model.specs.Frames.{QueueCommand, LiveCommand, destroy, drain, control, toQueue, Command, create, live, CommandRule, ruleOf, wrongLength, queueNamed, commandType, inMemType, outMemType, codedFormat, queueType}
-use Rattle.model.specs.Answers.{ErrorCode, invalidOperation, outOfMemory, invalidStream, invalidParameter, unsupportedControl, success, bufferDone, drainDone}
+use Rattle.model.specs.Answers.{ErrorCode, invalidOperation, outOfMemory, invalidStream, invalidParameter, unsupportedControl, success, drainDone}
 use Rattle.model.specs.Replies.{Reply, refuse, reply, Request, own, fail}
 use Rattle.model.specs.Commands.{Surroundings, onCreate, onDestroy, onDrain, onQueueOf, onNamed, onLive, onStream, onRule, onCommand}
-use Rattle.model.specs.Reports.{timestampOf, badEos, finishLeaves, finishBuffer, finishQueue, finishStream, onFinish, drainOver, endDrain, onDrained}
+use Rattle.model.specs.Reports.{badEos, earlyEos, finishAnswers, finishLeaves, finishBuffer, finishQueue, finishStream, onFinish, drainOver, answerDrain, onDrained}
 use Rattle.model.specs.Steps.{Step, streamOf, DeviceReply, refused, performOf, hostRefusal, stepOn}
 
 -- the queue that a command names
 abbrev pub named : Request → Option QueueType
 named c = queueNamed (queueType (c .frame))
-
--- a drain is pending under the ticket that it was given
-pub new-ticket : (t : Option ℕ) (b : Stream) → drainTicket (withDrain t b) ≡ t
-new-ticket none b = refl
-new-ticket (some t) b = refl
-
--- a drain keeps its ticket where EOS is given for it
-pub eos-ticket : (b : Stream) → drainTicket (withEos b) ≡ drainTicket b
-eos-ticket b = of (b .draining)
-  where
-    of : (d : Option PendingDrain) → ticketOf (Option·map giveEos d) ≡ ticketOf d
-    of none = refl
-    of (some d) = refl
 
 -- a finish report that is taken: its stream, its queue and its Queued buffer
 pub record FinishTaken (self : Option Stream) (qt r flags : ℕ) (b : Stream) (q : QueueType) (i : Buffer) : Type 0 where
@@ -42,11 +29,12 @@ pub record FinishTaken (self : Option Stream) (qt r flags : ℕ) (b : Stream) (q
   pub named-is : queueNamed qt ≡ some q
   pub waits-is : bufferOf r (queuedIn (queueOf q b .slots)) ≡ some i
   pub eos-fits : badEos flags q b ≡ false
+  pub not-early : earlyEos flags b ≡ false
 
 -- a drained report that is taken
 pub record DrainedTaken (self : Option Stream) (b : Stream) (t : ℕ) : Type 0 where
   pub self-is : self ≡ some b
-  pub drain-is : drainTicket b ≡ some t
+  pub drain-is : b .draining ≡ some t
   pub over-is : drainOver b ≡ true
 
 module _ (P : Reply → Type 0) where
@@ -96,10 +84,10 @@ module _ (P : Reply → Type 0) where
   live-cases c b fails all ending each control = fails unsupportedControl
   live-cases c b fails all ending each (toQueue k) = named-cases k c b (fails invalidParameter) (λ q e. each k q)
 
-  -- refusal 5 or 6, or the answer to a Queued buffer
+  -- refusal 5 or 6, or the answers to a Queued buffer and to the drain that it ends
   pub finish-cases : (n qt r flags ts : ℕ) (self : Option Stream) → P (refuse 5 self) → P (refuse 6 self)
       → ((b : Stream) (q : QueueType) (i : Buffer) → FinishTaken self qt r flags b q i
-      → P (reply (record { ticket = i .ticket; stream = n; response = bufferDone q (timestampOf q i ts) flags } ∷ []) (some (finishLeaves r flags b q))))
+      → P (reply (finishAnswers n flags ts b q i) (some (finishLeaves r flags b q))))
       → P (onFinish n qt r flags ts self)
   unfolding onFinish
   finish-cases n qt r flags ts self five six h = cond-elim P (ltb (err + eos) flags) (λ _. six) (λ _. of-stream self refl)
@@ -108,7 +96,8 @@ module _ (P : Reply → Type 0) where
           → P (finishBuffer n r flags ts b q i)
       of-buffer b q none e o f = rw e at five
       of-buffer b q (some i) e o f =
-          cond-elim P (badEos flags q b) (λ _. rw e at six) (λ z. h b q i (record { self-is = e; named-is = o; waits-is = f; eos-fits = z }))
+          cond-elim P (badEos flags q b) (λ _. rw e at six) (λ z.
+          cond-elim P (earlyEos flags b) (λ _. rw e at five) (λ y. h b q i (record { self-is = e; named-is = o; waits-is = f; eos-fits = z; not-early = y })))
 
       of-queue : (b : Stream) (q : Option QueueType) → self ≡ some b → queueNamed qt ≡ q → P (finishQueue n r flags ts b q)
       of-queue b none e o = rw e at five
@@ -124,13 +113,13 @@ module _ (P : Reply → Type 0) where
       → P (onDrained n self)
   unfolding onDrained
   drained-cases n none five h = five
-  drained-cases n (some b) five h = of-drain (drainTicket b) refl
+  drained-cases n (some b) five h = of-drain (b .draining) refl
     where
-      of-drain : (d : Option ℕ) → drainTicket b ≡ d → P (endDrain n b d)
+      of-drain : (d : Option ℕ) → b .draining ≡ d → P (answerDrain n b d)
       of-drain none e = five
       of-drain (some t) e =
           let done : Reply = reply (record { ticket = t; stream = n; response = drainDone } ∷ []) (some (withDrain none b)) in
-          let is : endDrain n b (some t) ≡ cond (drainOver b) done (refuse 5 (some b)) = refl in
+          let is : answerDrain n b (some t) ≡ cond (drainOver b) done (refuse 5 (some b)) = refl in
           subst P (sym is) (cond-elim P (drainOver b) (λ z. h b t (record { self-is = refl; drain-is = e; over-is = z })) (λ _. five))
 
 -- a refusal by a number, or what the stream that the step names gives

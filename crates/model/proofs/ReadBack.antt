@@ -18,11 +18,12 @@ use Rattle.laws.proofs.InOrder.{tests-all}
 use Rattle.field.specs.Field.{field, littleEndian}
 use Rattle.field.proofs.Laws.{field-after, field-back}
 use Rattle.model.specs.Numbers.{err}
-use Rattle.model.specs.Device.{QueueType, input, output, created, queued, dequeued, Slot, free, resource, Stream, Device, queueOf, drainTicket, Buffer, queuedIn, buffers, bufferOf, recordOf}
+use Rattle.model.specs.Device.{QueueType, input, output, isInput, created, queued, dequeued, Slot, free, resource, Stream, Device, queueOf, Buffer, queuedIn, buffers, bufferOf, recordOf}
 use Rattle.model.specs.Frames.{QueueCommand, createResource, queueResource, destroyAll, clear, getParameters, setParameters, LiveCommand, word}
 use Rattle.model.specs.Answers.{ErrorCode, invalidOperation, outOfMemory, invalidStream, invalidResource, invalidParameter, unsupportedControl, Response, success, bufferDone, drainDone, parameters, failure, Answer, wordBytes, responseBytes, responseOf, bytesOf, readFrom, answersIn}
 use Rattle.model.specs.Replies.{Reply, Request, own, fail}
-use Rattle.model.specs.Commands.{Surroundings, onCreate, stoppedAnswers, drainEnded, drainAnswers, onDestroy, onDrain, onCreateResource, isInput, onQueue, onDestroyAll, onClear, parameterWords, onGet, onSet, onQueueOf, onLive, onCommand}
+use Rattle.model.specs.Commands.{Surroundings, onCreate, stoppedAnswers, drainEnded, drainAnswers, onDestroy, onDrain, onCreateResource, onQueue, onDestroyAll, onClear, parameterWords, onGet, onSet, onQueueOf, onLive, onCommand}
+use Rattle.model.specs.Reports.{hasEos}
 use Rattle.model.specs.Steps.{Act, command, finish, drained, Step, serve, DeviceReply, around, stepOn, isError}
 use Rattle.model.specs.WellFormed.{u32, goodSlot, goodDrain, wellFormed, goodAct}
 use Rattle.model.specs.Promises.{asWritten, ReadBack}
@@ -191,10 +192,10 @@ module _ (c : Request) (t : u32 (c .ticket) ≡ true) where
       let n = c .stream in
       let i = stoppedAnswers n input (buffers input b) in
       let o = stoppedAnswers n output (buffers output b) in
-      let d = drainAnswers n (drainTicket b) in
+      let d = drainAnswers n (b .draining) in
       good-append i (o ++ (d ++ own c success ∷ [])) (stopped-readable n input b g)
       (good-append o (d ++ own c success ∷ []) (stopped-readable n output b g)
-      (good-append d (own c success ∷ []) (drain-good n (drainTicket b) (g .draining)) success-readable))
+      (good-append d (own c success ∷ []) (drain-good n (b .draining) (g .draining)) success-readable))
 
   live-readable : (k : LiveCommand) (b : Stream) → GoodStream b → GoodAnswers (onLive k c b)
   unfolding onDrain
@@ -213,7 +214,9 @@ unfolding serve u32
 serve-answers around n self (command t f) g m = command-readable (record { stream = n; ticket = t; frame = f; self = self }) (and-left (u32 t) _ m) around g
 serve-answers around n self (finish k qt r flags ts) g m =
     finish-cases GoodAnswers n qt r flags ts self refl refl
-    (λ b q i h. both (answer-good (i .ticket) n _ (found-good r i (queuedIn (queueOf q b .slots)) (queue-small q b (subst GoodSelf (h .self-is) g)) (h .waits-is)) refl) refl)
+    (λ b q i h. let s : GoodStream b = subst GoodSelf (h .self-is) g in
+    both (answer-good (i .ticket) n _ (found-good r i (queuedIn (queueOf q b .slots)) (queue-small q b s) (h .waits-is)) refl)
+    (drain-good n (drainEnded (hasEos flags) b) (ended-good (hasEos flags) b s)))
 serve-answers around n self (drained k) g m =
     drained-cases GoodAnswers n self refl
     (λ b t h. let s : GoodStream b = subst GoodSelf (h .self-is) g in

@@ -7,12 +7,12 @@ use native.Mathlib.Omega.{arith}
 use lib.ListN.{length, length-append}
 use Rattle.field.specs.Field.{littleEndian}
 use Rattle.model.specs.Numbers.{answerRoom, err}
-use Rattle.model.specs.Device.{QueueType, input, output, created, queued, dequeued, Slot, free, resource, Stream, queueOf, drainTicket, Buffer, queuedIn, buffers, recordOf}
+use Rattle.model.specs.Device.{QueueType, input, output, isInput, created, queued, dequeued, Slot, free, resource, Stream, queueOf, Buffer, queuedIn, buffers, recordOf}
 use Rattle.model.specs.Frames.{QueueCommand, createResource, queueResource, destroyAll, clear, getParameters, setParameters, LiveCommand}
 use Rattle.model.specs.Answers.{ErrorCode, Response, success, bufferDone, drainDone, parameters, failure, Answer, responseBytes, bytesOf}
 use Rattle.model.specs.Replies.{Reply, Request, own, fail}
-use Rattle.model.specs.Commands.{Surroundings, onCreate, stoppedAnswers, drainEnded, drainAnswers, onDestroy, onDrain, onCreateResource, isInput, onQueue, onDestroyAll, onClear, parameterWords, onGet, onSet, onQueueOf, onLive, onCommand}
-use Rattle.model.specs.Reports.{timestampOf}
+use Rattle.model.specs.Commands.{Surroundings, onCreate, stoppedAnswers, drainEnded, drainAnswers, onDestroy, onDrain, onCreateResource, onQueue, onDestroyAll, onClear, parameterWords, onGet, onSet, onQueueOf, onLive, onCommand}
+use Rattle.model.specs.Reports.{timestampOf, hasEos}
 use Rattle.model.specs.Steps.{Act, command, finish, drained, serve, DeviceReply, around}
 use Rattle.model.specs.Promises.{FitsRoom}
 use Rattle.laws.proofs.Ascending.{length-ascending}
@@ -90,7 +90,7 @@ destroy-small c b g =
     let n = c .stream in
     let i = stoppedAnswers n input (buffers input b) in
     let o = stoppedAnswers n output (buffers output b) in
-    let d = drainAnswers n (drainTicket b) in
+    let d = drainAnswers n (b .draining) in
     omega (
       arith,
       size-append i (o ++ (d ++ own c success ∷ [])),
@@ -98,7 +98,7 @@ destroy-small c b g =
       size-append d (own c success ∷ []),
       stopped-fit n input b g,
       stopped-fit n output b g,
-      size-drain n (drainTicket b),
+      size-drain n (b .draining),
       size-own c success,
     )
 
@@ -117,7 +117,9 @@ serve-small : (around : Surroundings) (n : ℕ) (self : Option Stream) (a : Act)
 unfolding serve
 serve-small around n self (command t f) g = command-small around (record { stream = n; ticket = t; frame = f; self = self }) g
 serve-small around n self (finish k qt r flags ts) g =
-    finish-cases InRoom n qt r flags ts self (omega arith) (omega arith) (λ b q i h. omega (arith, size-cons (i .ticket) n (bufferDone q (timestampOf q i ts) flags) []))
+    finish-cases InRoom n qt r flags ts self (omega arith) (omega arith) (λ b q i h.
+    let d = drainEnded (hasEos flags) b in
+    omega (arith, size-cons (i .ticket) n (bufferDone q (timestampOf q i ts) flags) (drainAnswers n d), size-drain n d))
 serve-small around n self (drained k) g = drained-cases InRoom n self (omega arith) (λ b t h. omega (arith, size-cons t n drainDone []))
 
 pub fits-room : FitsRoom

@@ -27,7 +27,7 @@ use Rattle.model.proofs.Origins.{finish-cases, drained-cases}
 use Rattle.model.proofs.WellFormed.{well-places, not-again, stays-well-formed}
 use Rattle.model.proofs.ReadBack.{read-back}
 use Rattle.model.proofs.Room.{fits-room}
-use Rattle.model.proofs.Fits.{fails, acceptedReply, Rejected, byHost, byError, FitsAct, serve-fits}
+use Rattle.model.proofs.Fits.{fails, acceptedReply, Rejected, byHost, byError, finish-accepted, FitsAct, serve-fits}
 use Rattle.model.proofs.Seen.{step-runs}
 use Rattle.model.proofs.Condition3.{sane-record, step-stream-is, accepted-is}
 use Rattle.model.proofs.Tables.{Lent, not-refused, valid-refusal, words-valid, valid-device, valid-whole}
@@ -86,7 +86,7 @@ module _ (d : Device) (h : wellFormed d ≡ true) (n : ℕ) where
       of (command t f) s acc r = asked t f (serve (around d n) n self (command t f)) (step-stream-is (command t f) n s) r
       of (finish m qt x flags ts) s acc r =
           numbered-report (finish m qt x flags ts) (serve (around d n) n self (finish m qt x flags ts)) r
-          (finish-cases Numbered n qt x flags ts self (λ _. refl) (λ _. refl) (λ b q i h z. never z)) acc
+          (finish-cases Numbered n qt x flags ts self (λ _. refl) (λ _. refl) (λ b q i h z. never (sym (finish-accepted n flags ts b q i none) ∙ z))) acc
       of (drained m) s acc r =
           numbered-report (drained m) (serve (around d n) n self (drained m)) r (drained-cases Numbered n self (λ _. refl) (λ b t h z. never z)) acc
 

@@ -15,17 +15,17 @@ use Rattle.laws.proofs.Lists.{decide, cond-elim, eqb-sym, none-is, all-implied}
 use Rattle.laws.proofs.InOrder.{tests-cases, tests-all}
 use Rattle.field.specs.Field.{field}
 use Rattle.model.specs.Numbers.{streamPlaces, queueSlots, streamNumbers, firstCoded, lastCoded, headerBytes}
-use Rattle.model.specs.Device.{QueueType, input, output, State, created, queued, dequeued, Slot, free, resource, Queue, Stream, Place, vacant, occupied, Device, fresh, newQueue, newStream, queueOf, withQueue, drainTicket, withDrain, withSlots, present, addResource, setState, stopped, stopAll, freeAll, recordOf, noPlace, place, replace, install, putRecord, isSpent, spend, isNew, spentAfter, putBack}
+use Rattle.model.specs.Device.{QueueType, input, output, isInput, State, created, queued, dequeued, Slot, free, resource, Queue, Stream, Place, vacant, occupied, Device, fresh, newQueue, newStream, queueOf, withQueue, withDrain, withSlots, present, addResource, setState, stopped, stopAll, freeAll, recordOf, noPlace, place, replace, install, putRecord, isSpent, spend, isNew, spentAfter, putBack}
 use Rattle.model.specs.Frames.{QueueCommand, createResource, queueResource, destroyAll, clear, getParameters, setParameters, LiveCommand, word, streamId, codedFormat, resourceId, timestampSent}
 use Rattle.model.specs.Replies.{Reply, Request, fail}
-use Rattle.model.specs.Commands.{Surroundings, onCreate, withoutEnded, onDestroy, onDrain, onCreateResource, isInput, onQueue, onDestroyAll, cleared, onClear, onGet, goodExtent, badExtent, onSet, onQueueOf, onLive, onCommand}
-use Rattle.model.specs.Reports.{hasEos, noteEos}
+use Rattle.model.specs.Commands.{Surroundings, onCreate, withoutEnded, onDestroy, onDrain, onCreateResource, onQueue, onDestroyAll, onClear, onGet, goodExtent, badExtent, onSet, onQueueOf, onLive, onCommand}
+use Rattle.model.specs.Reports.{hasEos}
 use Rattle.model.specs.Steps.{Act, command, finish, drained, streamOf, serve, DeviceReply, around}
 use Rattle.model.specs.WellFormed.{u8, u32, u64, goodState, goodSlot, distinctSlots, goodSlots, goodQueue, goodDrain, goodStream, goodPlace, distinctPlaces, goodPlaces, spentIn, goodSpent, wellFormed, goodAct}
 use Rattle.model.specs.Promises.{StaysWellFormed}
 use Rattle.field.proofs.Laws.{field-below}
 use Rattle.model.proofs.Slots.{Distinct, distinct-set, distinct-stop, distinct-free, distinct-add}
-use Rattle.model.proofs.Origins.{new-ticket, eos-ticket, live-cases, command-cases, finish-cases, drained-cases, step-cases}
+use Rattle.model.proofs.Origins.{command-cases, live-cases, finish-cases, drained-cases, step-cases}
 use Rattle.model.proofs.Places.{alone, alone-head, alone-tail, replace-other, replace-absent, install-other, all-record, all-put}
 use Rattle.model.proofs.Spent.{spend-same, spend-keeps}
 use Rattle.model.proofs.Seen.{NotAgain, serve-next, nextOf, after-length}
@@ -138,7 +138,7 @@ pub record GoodQueue (q : Queue) : Type 0 where
 
 pub record GoodStream (b : Stream) : Type 0 where
   pub format : within (b .format) firstCoded lastCoded ≡ true
-  pub draining : goodDrain (drainTicket b) ≡ true
+  pub draining : goodDrain (b .draining) ≡ true
   pub inputs : GoodQueue (b .inputs)
   pub outputs : GoodQueue (b .outputs)
 
@@ -165,10 +165,10 @@ is-queue q g = both (are-slots (q .slots) (g .slots)) (both (not-false (goodExte
 pub stream-is : (b : Stream) → goodStream b ≡ true → GoodStream b
 stream-is b h =
     let r₁ = and-right (within (b .format) firstCoded lastCoded) _ h in
-    let r₂ = and-right (goodDrain (drainTicket b)) _ r₁ in
+    let r₂ = and-right (goodDrain (b .draining)) _ r₁ in
     record {
       format = and-left (within (b .format) firstCoded lastCoded) _ h;
-      draining = and-left (goodDrain (drainTicket b)) _ r₁;
+      draining = and-left (goodDrain (b .draining)) _ r₁;
       inputs = queue-is (b .inputs) (and-left (goodQueue (b .inputs)) _ r₂);
       outputs = queue-is (b .outputs) (and-right (goodQueue (b .inputs)) _ r₂);
     }
@@ -184,26 +184,18 @@ good-with : (t : QueueType) (q : Queue) (b : Stream) → GoodStream b → GoodQu
 good-with input q b g h = record { format = g .format; draining = g .draining; inputs = h; outputs = g .outputs }
 good-with output q b g h = record { format = g .format; draining = g .draining; inputs = g .inputs; outputs = h }
 
-good-slots : (t : QueueType) (s : List Slot) (b : Stream) → GoodStream b → GoodSlots s → GoodStream (withQueue t (withSlots s (queueOf t b)) b)
-good-slots t s b g h =
-    let o = good-queue-of t b g in
-    good-with t _ b g (record { slots = h; width = o .width; height = o .height; rate = o .rate })
-
 good-drain : (d : Option ℕ) (b : Stream) → GoodStream b → goodDrain d ≡ true → GoodStream (withDrain d b)
-good-drain d b g h = record { format = g .format; draining = subst (λ (t : Option ℕ). goodDrain t ≡ true) (sym (new-ticket d b)) h; inputs = g .inputs; outputs = g .outputs }
+good-drain d b g h = record { format = g .format; draining = h; inputs = g .inputs; outputs = g .outputs }
 
-good-noted : (flags : ℕ) (b : Stream) → GoodStream b → GoodStream (noteEos flags b)
-good-noted flags b g =
-    cond-elim GoodStream (hasEos flags) (λ _. record { format = g .format; draining = subst (λ (t : Option ℕ). goodDrain t ≡ true) (sym (eos-ticket b)) (g .draining); inputs = g .inputs; outputs = g .outputs }) (λ _. g)
-
-good-without : (ends : Bool) (b : Stream) → GoodStream b → GoodStream (withoutEnded ends b)
-good-without true b g = good-drain none b g refl
-good-without false b g = g
-
-good-clear : (t : QueueType) (b : Stream) → GoodStream b → GoodStream (withQueue t (cleared (queueOf t b)) (withoutEnded (isInput t) b))
-good-clear t b g =
+-- other slots in a queue, whether the drain ends or not
+good-slots : (ends : Bool) (t : QueueType) (s : List Slot) (b : Stream) → GoodStream b → GoodSlots s → GoodStream (withQueue t (withSlots s (queueOf t b)) (withoutEnded ends b))
+good-slots ends t s b g h =
     let o = good-queue-of t b g in
-    good-with t _ _ (good-without (isInput t) b g) (record { slots = slots-stop (queueOf t b .slots) (o .slots); width = o .width; height = o .height; rate = o .rate })
+    good-with t _ _ (left ends) (record { slots = h; width = o .width; height = o .height; rate = o .rate })
+  where
+    left : (e : Bool) → GoodStream (withoutEnded e b)
+    left true = good-drain none b g refl
+    left false = g
 
 good-new : (v : ℕ) → within v firstCoded lastCoded ≡ true → GoodStream (newStream v)
 unfolding u32 within
@@ -225,13 +217,13 @@ module _ (c : Request) (b : Stream) (self : c .self ≡ some b) (g : GoodStream 
   unfolding onCreateResource onQueue onDestroyAll onClear onGet onSet
   changed-good createResource q =
       tests-cases GoodNext (fail c) _ (λ e. same-queue) (λ h₁ h₂ h₃ h₄ h₅ h₆ h₇.
-      good-slots q _ b g (slots-add (resourceId (c .frame)) (queueOf q b .slots) (word-u32 (c .frame) 12 m) h₆ ((good-queue-of q b g) .slots)))
+      good-slots false q _ b g (slots-add (resourceId (c .frame)) (queueOf q b .slots) (word-u32 (c .frame) 12 m) h₆ ((good-queue-of q b g) .slots)))
   changed-good queueResource q =
       tests-all GoodNext (fail c) _ (λ e. same-queue)
-      (good-slots q _ b g (slots-set (resourceId (c .frame)) (queued (c .ticket) (timestampSent (c .frame))) (queueOf q b .slots)
+      (good-slots false q _ b g (slots-set (resourceId (c .frame)) (queued (c .ticket) (timestampSent (c .frame))) (queueOf q b .slots)
       (both t (field-u64 (c .frame) 16 m)) ((good-queue-of q b g) .slots)))
-  changed-good destroyAll q = tests-all GoodNext (fail c) _ (λ e. same-queue) (good-slots q _ b g (slots-free (queueOf q b .slots) ((good-queue-of q b g) .slots)))
-  changed-good clear q = good-clear q b g
+  changed-good destroyAll q = tests-all GoodNext (fail c) _ (λ e. same-queue) (good-slots false q _ b g (slots-free (queueOf q b .slots) ((good-queue-of q b g) .slots)))
+  changed-good clear q = good-slots (isInput q) q _ b g (slots-stop (queueOf q b .slots) ((good-queue-of q b g) .slots))
   changed-good getParameters q = same-queue
   changed-good setParameters q =
       tests-cases GoodNext (fail c) _ (λ e. same-queue) (λ h₁ h₂ h₃ h₄.
@@ -255,7 +247,7 @@ serve-good around n self (command t f) g m =
 serve-good around n self (finish k qt r flags ts) g m =
     finish-cases GoodNext n qt r flags ts self g g
     (λ b q i h. let s : GoodStream b = subst GoodSelf (h .self-is) g in
-    good-noted flags _ (good-slots q _ b s (slots-set r dequeued (queueOf q b .slots) refl ((good-queue-of q b s) .slots))))
+    good-slots (hasEos flags) q _ b s (slots-set r dequeued (queueOf q b .slots) refl ((good-queue-of q b s) .slots)))
 serve-good around n self (drained k) g m =
     drained-cases GoodNext n self g (λ b t h. good-drain none b (subst GoodSelf (h .self-is) g) refl)
 

@@ -1,4 +1,4 @@
--- How a case is checked on the definitions, the ten cases of document 01 that are to be, three on spent numbers, four on EOS, and some lines on what no run shows.
+-- How a case is checked on the definitions, the ten cases of document 01 that are to be, three on spent numbers, six on the last picture of a drain, and some lines on what no run shows.
 use Prim.Native.Nat.{ℕ}
 use mathlib.Core.Bool.{Bool, true, false, _&&_}
 use mathlib.Core.Option.{some}
@@ -164,22 +164,18 @@ spentCases =
     ∷ case [] (askCreateOf 1023 gives (1 ∷ 8 ∷ 0x0200 ∷ 1023 ∷ []) ∷ askCreateOf 1024 gives (1 ∷ 8 ∷ 0x0302 ∷ 1024 ∷ []) ∷ [])
     ∷ []
 
--- EOS and a drain: an output that is there wants it, without outputs nothing does; it is given once, and stays given over a clear of the outputs; a drain
--- after a clear of the inputs starts without
-abbrev pub eosCases : List Case
-eosCases =
-    case (askCreate ∷ askResource 0x101 9 ∷ askDrain 4 ∷ []) (drained 7 refused 5 ∷ [])
+-- The last picture and its drain: both are answered by one report, also with ERR, and then none is pending; not while an input is Queued; the EOS rule is tested
+-- before that; a drained report is for a stream without outputs, of which one that is only Created counts, and without a Queued input
+abbrev pub lastPictureCases : List Case
+lastPictureCases =
+    case (bothDraining ++ askQueue 5 0x101 9 77 1 ∷ [])
+    (drained 7 refused 5 ∷ finish 7 0x101 9 3 88 gives (bufferEnds 5 88 3 ++ successTo 4) ∷ askClear 6 0x100 gives successTo 6 ∷ askDrain 8 gives [] ∷ [])
+    ∷ case (bothQueues ++ askQueue 5 0x101 9 77 1 ∷ askQueue 6 0x100 9 78 1 ∷ askDrain 4 ∷ [])
+    (finish 7 0x101 9 2 88 refused 5 ∷ finish 7 0x100 9 2 0 refused 6 ∷ finish 7 0x100 9 0 0 gives bufferEnds 6 78 0 ∷ finish 7 0x101 9 2 88 gives (bufferEnds 5 88 2 ++ successTo 4) ∷ [])
+    ∷ case (bothQueues ++ askQueue 5 0x101 9 77 1 ∷ askQueue 6 0x100 9 78 1 ∷ []) (finish 7 0x101 9 2 88 refused 6 ∷ [])
+    ∷ case (askCreate ∷ askResource 0x101 9 ∷ askDrain 4 ∷ []) (drained 7 refused 5 ∷ [])
     ∷ case (askCreate ∷ askResource 0x100 9 ∷ askDrain 4 ∷ []) (drained 7 gives successTo 4 ∷ [])
-    ∷ case (bothDraining ++ askQueue 5 0x101 9 77 1 ∷ [])
-    (drained 7 refused 5
-    ∷ finish 7 0x101 9 3 88 gives bufferEnds 5 88 3
-    ∷ askQueue 6 0x101 9 78 1 gives []
-    ∷ finish 7 0x101 9 2 89 refused 6
-    ∷ askClear 8 0x101 gives (bufferEnds 6 78 1 ++ successTo 8)
-    ∷ drained 7 gives successTo 4
-    ∷ [])
-    ∷ case (bothDraining ++ askQueue 5 0x101 9 77 1 ∷ finish 7 0x101 9 2 88 ∷ [])
-    (askClear 6 0x100 gives (successTo 4 ++ successTo 6) ∷ askDrain 8 gives [] ∷ drained 7 refused 5 ∷ [])
+    ∷ case (askCreate ∷ askResource 0x100 9 ∷ askQueue 5 0x100 9 77 1 ∷ askDrain 4 ∷ []) (drained 7 refused 5 ∷ [])
     ∷ []
 
 -- What no run shows: only condition 3 asks whose step it is, what is accepted or 'out of memory', what is pending, and which lists there
@@ -208,7 +204,7 @@ withOutputs s = putBack 7 (some (withQueue output (withSlots s newQueue) (newStr
 pub record MoreCases : Type 0 where
   -- though runs show them too: a wrong rule is then refused by a case
   pub spent-numbers : allOf passes spentCases ≡ true
-  pub eos-of-drains : allOf passes eosCases ≡ true
+  pub last-pictures : allOf passes lastPictureCases ≡ true
   -- a command of an unknown type, and a report that is refused, belong to the number in them; a command of 7 bytes belongs to none
   pub owners : map (belongs 7) (
       eventAfter [] (ask 5 (0x0100 ∷ 7 ∷ []))
@@ -233,6 +229,9 @@ pub record MoreCases : Type 0 where
   pub record-pending : outstandingIn (recordOf 7 (deviceAfter outputCleared .places)) ≡ outstanding 20 (toBuffer 0x100 9 77) ∷ outstanding 40 toDrain ∷ []
   -- a destruction completes the input, the output, the drain, and then answers itself
   pub completed-in-order : expectedTickets (noted 7 askDestroy true true) (ledgerLeft allPending) ≡ 20 ∷ 30 ∷ 40 ∷ 6 ∷ []
+  -- a finish with EOS completes its buffer and then the drain, one without it the buffer alone
+  pub completed-by-finish : map (λ (flags : ℕ). expectedTickets (noted 7 (finish 7 0x101 9 flags 88) true true) (ledgerLeft allPending)) (1 ∷ 2 ∷ 3 ∷ [])
+      ≡ (30 ∷ []) ∷ (30 ∷ 40 ∷ []) ∷ (30 ∷ 40 ∷ []) ∷ []
   -- a queue has sixteen slots, and a resource number fits its word
   pub record-rules : map (λ (s : List Slot). wellFormed (withOutputs s)) (replicate 15 free ∷ (resource 0x100000000 created ∷ replicate 15 free) ∷ []) ≡ false ∷ false ∷ []
   -- the lists of condition 3 have finishes of any numbers in the host's types

@@ -2,7 +2,7 @@
 -- sees only its surroundings, and only a creation looks at them. In each definition c is the request, f its frame, b the stream's record and q
 -- the queue that the frame names.
 use Prim.Native.Nat.{ℕ, zero, suc, _+_, _*_, _/_, _%_, _^_}
-use mathlib.Core.Bool.{Bool, true, false, cond, not, _&&_, _||_}
+use mathlib.Core.Bool.{Bool, false, cond, not, _&&_, _||_}
 use mathlib.Core.Option.{Option, none, some}
 use mathlib.Core.List.{List, [], _∷_, _++_, map}
 use lib.ListN.{length, take, drop, replicate}
@@ -12,7 +12,7 @@ use Rattle.laws.specs.InOrder.{TestList, accept, _⇒_then_, byTests}
 use Rattle.laws.specs.Lists.{isEmpty, isNone, toList, total}
 use Rattle.tag.specs.Tag.{goodTag, tagIn}
 use Rattle.model.specs.Numbers.{queueSlots, maxPlanes, firstCoded, lastCoded, nv12, err}
-use Rattle.model.specs.Device.{QueueType, input, output, queued, Queue, Stream, newStream, queueOf, withQueue, drainTicket, withDrain, withSlots, Buffer, queuedIn, buffers, bufferOf, present, noSlot, addResource, setState, stopAll, freeAll}
+use Rattle.model.specs.Device.{QueueType, input, output, isInput, queued, Queue, Stream, newStream, queueOf, withQueue, withDrain, withSlots, Buffer, queuedIn, buffers, bufferOf, present, noSlot, addResource, setState, stopAll, freeAll}
 use Rattle.model.specs.Frames.{QueueCommand, createResource, queueResource, destroyAll, clear, getParameters, setParameters, LiveCommand, destroy, drain, control, toQueue, Command, create, live, CommandRule, ruleOf, wrongLength, queueNumber, queueNamed, commandType, inMemType, outMemType, codedFormat, queueType, resourceId, planesLayout, numPlanes, numEntries, entriesStart, entries, entryBytes, entryAddr, entryLength, timestampSent, numDataSizes, formatSent, frameWidth, frameHeight, frameRate}
 use Rattle.model.specs.Answers.{ErrorCode, invalidOperation, outOfMemory, invalidStream, invalidResource, invalidParameter, unsupportedControl, success, bufferDone, drainDone, parameters, Answer}
 use Rattle.model.specs.Replies.{Reply, reply, Request, own, fail}
@@ -46,11 +46,11 @@ onCreate around c =
 abbrev pub stoppedAnswers : ℕ → QueueType → List Buffer → List Answer
 stoppedAnswers n q = map (λ (i : Buffer). record { ticket = i .ticket; stream = n; response = bufferDone q (i .timestamp) err })
 
--- the pending drain of a step that ends it, if one is pending; of another step none
+-- the drain that a step ends: the stream's pending one, if there is one; none where the step ends no drain
 abbrev pub drainEnded : Bool → Stream → Option ℕ
-drainEnded ends b = cond ends (drainTicket b) none
+drainEnded ends b = cond ends (b .draining) none
 
--- the record without that drain
+-- the record without the drain that the step ends
 abbrev pub withoutEnded : Bool → Stream → Stream
 withoutEnded ends b = cond ends (withDrain none b) b
 
@@ -63,14 +63,14 @@ unfoldable pub onDestroy : Request → Stream → Reply
 onDestroy c b =
     let n = c .stream in
     reply
-    (stoppedAnswers n input (buffers input b) ++ (stoppedAnswers n output (buffers output b) ++ (drainAnswers n (drainTicket b) ++ own c success ∷ [])))
+    (stoppedAnswers n input (buffers input b) ++ (stoppedAnswers n output (buffers output b) ++ (drainAnswers n (b .draining) ++ own c success ∷ [])))
     none
 
 -- 0x0103 drain
 unfoldable pub onDrain : Request → Stream → Reply
 onDrain c b =
     byTests (fail c)
-    (not (isNone (drainTicket b)) ⇒ invalidOperation then
+    (not (isNone (b .draining)) ⇒ invalidOperation then
     accept (reply [] (some (withDrain (some (c .ticket)) b))))
 
 -- one of the first k entries has length 0, or an address + length above 2^64
@@ -95,14 +95,9 @@ onCreateResource c b q =
     noSlot s ⇒ outOfMemory then
     succeed c (some (withQueue q (withSlots (addResource r s) (queueOf q b)) b)))
 
--- whether it is the input queue
-abbrev pub isInput : QueueType → Bool
-isInput input = true
-isInput output = false
-
 -- an input while draining
 abbrev pub inputDraining : QueueType → Stream → Bool
-inputDraining q b = isInput q && not (isNone (drainTicket b))
+inputDraining q b = isInput q && not (isNone (b .draining))
 
 -- 0x0105 queue: no answer now, the ticket and timestamp are kept
 unfoldable pub onQueue : Request → Stream → QueueType → Reply

@@ -3,7 +3,7 @@
 -- A place is document 01's own word; it calls a slot a place too, and a pending drain an owed one.
 use Prim.Native.Nat.{ℕ}
 use mathlib.Core.Bool.{Bool, true, false, cond, not, _&&_}
-use mathlib.Core.Option.{Option, none, some, Option·map}
+use mathlib.Core.Option.{Option, none, some}
 use mathlib.Core.List.{List, [], _∷_}
 use lib.ListN.{replicate, getD, set}
 use lib.Dec.{eqb}
@@ -14,6 +14,11 @@ use Rattle.model.specs.Numbers.{streamPlaces, queueSlots, streamNumbers}
 -- the queue types: compressed input, pictures out
 pub data QueueType : Type 0 where
   input output : QueueType
+
+-- whether it is the input queue
+abbrev pub isInput : QueueType → Bool
+isInput input = true
+isInput output = false
 
 -- a resource's state; while Queued it keeps its ticket and its timestamp
 pub data State : Type 0 where
@@ -33,32 +38,10 @@ pub record Queue : Type 0 where
   pub rate : ℕ
   pub slots : List Slot
 
--- a pending drain: its ticket, and whether EOS was given since it was accepted
-pub record PendingDrain : Type 0 where
-  pub ticket : ℕ
-  pub eosGiven : Bool
-
--- a drain that is accepted starts without it
-abbrev pub newDrain : ℕ → PendingDrain
-newDrain t = record { ticket = t; eosGiven = false }
-
--- the drain with EOS given
-abbrev pub giveEos : PendingDrain → PendingDrain
-giveEos d = record { ticket = d .ticket; eosGiven = true }
-
--- the ticket of a pending drain
-abbrev pub ticketOf : Option PendingDrain → Option ℕ
-ticketOf d = Option·map (λ (x : PendingDrain). x .ticket) d
-
--- whether EOS was given for it; not so where none is pending
-abbrev pub eosGivenFor : Option PendingDrain → Bool
-eosGivenFor none = false
-eosGivenFor (some d) = d .eosGiven
-
--- the record of a live stream: coded format, a pending drain, the two queues. Its number stands in its place.
+-- the record of a live stream: coded format, the ticket of a pending drain, the two queues. Its number stands in its place.
 pub record Stream : Type 0 where
   pub format : ℕ
-  pub draining : Option PendingDrain
+  pub draining : Option ℕ
   pub inputs : Queue
   pub outputs : Queue
 
@@ -96,21 +79,9 @@ abbrev pub withQueue : QueueType → Queue → Stream → Stream
 withQueue input q b = record { format = b .format; draining = b .draining; inputs = q; outputs = b .outputs }
 withQueue output q b = record { format = b .format; draining = b .draining; inputs = b .inputs; outputs = q }
 
--- the ticket of its pending drain, or none
-abbrev pub drainTicket : Stream → Option ℕ
-drainTicket b = ticketOf (b .draining)
-
--- the record with a drain newly pending under that ticket, or with none
+-- the record with a drain pending under that ticket, or with none
 abbrev pub withDrain : Option ℕ → Stream → Stream
-withDrain t b = record { format = b .format; draining = Option·map newDrain t; inputs = b .inputs; outputs = b .outputs }
-
--- whether EOS was given for its pending drain
-abbrev pub eosGivenIn : Stream → Bool
-eosGivenIn b = eosGivenFor (b .draining)
-
--- the record with EOS given for its pending drain
-abbrev pub withEos : Stream → Stream
-withEos b = record { format = b .format; draining = Option·map giveEos (b .draining); inputs = b .inputs; outputs = b .outputs }
+withDrain d b = record { format = b .format; draining = d; inputs = b .inputs; outputs = b .outputs }
 
 -- the queue with other slots
 abbrev pub withSlots : List Slot → Queue → Queue

@@ -5,11 +5,11 @@ use mathlib.Core.Path.{_≡_}
 use mathlib.Core.Bool.{Bool, true, false, cond, not, _&&_, _||_}
 use mathlib.Core.Option.{Option, none, some}
 use mathlib.Core.List.{List, [], _∷_, _++_, map}
-use lib.Dec.{eqb}
+use lib.Dec.{eqb, leb}
 use Rattle.laws.specs.Lists.{keep, howMany, toList}
 use Rattle.laws.specs.Ascending.{ascending}
 use Rattle.field.specs.Field.{field}
-use Rattle.model.specs.Device.{Stream, drainTicket, Buffer, queuedIn}
+use Rattle.model.specs.Device.{Stream, Buffer, queuedIn}
 use Rattle.model.specs.Answers.{Written}
 use Rattle.model.specs.Steps.{Act, command, finish, drained, Event, answersOf, accepted}
 
@@ -88,11 +88,11 @@ abbrev pub resourceIn : Awaited → ℕ
 resourceIn (toBuffer q r ts) = r
 resourceIn toDrain = 0
 
--- What a step completes (document 01: pays): of its stream an accepted finish the answer of its queue type and resource; a drained report the
--- drain; 0x0107 its queue's, and for input the drain; 0x0102 all.
+-- What a step completes (document 01: pays): of its stream an accepted finish the answer of its queue type and resource, and with EOS, 2 among its flags,
+-- the drain too; a drained report the drain; 0x0107 its queue's, and for input the drain; 0x0102 all. Flags above 3 are never accepted.
 unfoldable pub completes : Act → Awaited → Bool
 completes (command t f) w = isType 0x0102 f || (isType 0x0107 f && (isBufferOf (field 4 f 8) w || (eqb (field 4 f 8) 0x100 && isDrain w)))
-completes (finish n qt r flags ts) w = isBufferOf qt w && eqb (resourceIn w) r
+completes (finish n qt r flags ts) w = (isBufferOf qt w && eqb (resourceIn w) r) || (leb 2 flags && isDrain w)
 completes (drained n) w = isDrain w
 
 -- it is of the step's stream, and the step completes it
@@ -194,4 +194,4 @@ outstandingDrain d = map (λ (t : ℕ). outstanding t toDrain) (toList d)
 -- both, or nothing where there is no record
 abbrev pub outstandingIn : Option Stream → List Outstanding
 outstandingIn none = []
-outstandingIn (some b) = outstandingBuffers 0x100 (queuedIn (b .inputs .slots)) ++ (outstandingBuffers 0x101 (queuedIn (b .outputs .slots)) ++ outstandingDrain (drainTicket b))
+outstandingIn (some b) = outstandingBuffers 0x100 (queuedIn (b .inputs .slots)) ++ (outstandingBuffers 0x101 (queuedIn (b .outputs .slots)) ++ outstandingDrain (b .draining))

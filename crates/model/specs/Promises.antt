@@ -8,13 +8,13 @@ use mathlib.Core.List.{List, [], _∷_, _++_, map}
 use lib.ListN.{length, take, drop}
 use lib.Dec.{eqb, ltb, leb}
 use Rattle.laws.specs.Lists.{anyOf, allOf, Each, howMany, isNone}
-use Rattle.field.specs.Field.{field}
+use Rattle.field.specs.Field.{field, littleEndian}
 use Rattle.model.specs.Numbers.{tableWords, answerRoom}
 use Rattle.model.specs.Device.{Slot, Stream, Place, vacant, occupied, Device, fresh, slotNumber}
 use Rattle.model.specs.Frames.{word, streamId}
 use Rattle.model.specs.Answers.{ErrorCode, code, Answer, responseOf, wordBytes, bytesOf, Written, answersIn}
 use Rattle.model.specs.Steps.{Act, command, finish, drained, Step, stepOn, Event, eventOf, answersOf, accepted, belongs, isCreation, outOfMemoryAt}
-use Rattle.model.specs.Ledger.{toDrain, stepStream, awaitedBy, adds, completed, notedOf, ledgerOf}
+use Rattle.model.specs.Ledger.{Awaited, toDrain, Pending, Ledger, stepStream, isBufferOf, isDrain, resourceIn, awaits, completed, notedOf, ledgerOf}
 use Rattle.model.specs.WellFormed.{wellFormed, goodAct, goodSteps}
 use Rattle.model.specs.Tables.{Layout, Effect, untouched, valid, effect, freshen, tableEvent, tableEvents}
 use Rattle.model.specs.Condition3.{stepsOf, onTable}
@@ -157,44 +157,53 @@ SpentExactly L =
     → tableEvents L (freshen L t .table) ss ≡ before ++ e ∷ later → e .step .act ≡ command ticket f → field 4 f 0 ≡ 0x0101 → length f ≡ 88
     → answerRoom ≤ length (e .step .room) → saysInvalidStream e ≡ (ltb 1023 (field 4 f 4) || anyOf (createdAt (field 4 f 4)) before)
 
--- No drain is said to be done without its last picture. The numbers are written out here too.
+-- The last picture and its drain are answered in one step. The numbers are written out here too.
 
--- a finish of an output of the stream n with EOS; flags above 3 are never accepted
-abbrev pub isEosFinish : ℕ → Act → Bool
-isEosFinish n (command t f) = false
-isEosFinish n (finish m qt r flags ts) = eqb m n && (eqb qt 0x101 && leb 2 flags)
-isEosFinish n (drained m) = false
+-- a slot of the outputs holds a resource, in whatever state
+abbrev pub hasOutputs : Stream → Bool
+hasOutputs b = anyOf (λ (s : Slot). not (isNone (slotNumber s))) (b .outputs .slots)
 
--- an accepted one
-abbrev pub givesEos : ℕ → Event → Bool
-givesEos n e = isEosFinish n (e .step .act) && accepted e
+-- some answer to the stream n that passes the test is pending
+abbrev pub isPending : ℕ → (Awaited → Bool) → Ledger → Bool
+isPending n q l = anyOf (λ (p : Pending). eqb (p .stream) n && awaits q p) l
 
--- the stream is live, and a slot of its outputs holds a resource, in whatever state
-abbrev pub hasOutputs : Option Stream → Bool
-hasOutputs none = false
-hasOutputs (some b) = anyOf (λ (s : Slot). not (isNone (slotNumber s))) (b .outputs .slots)
+-- the event e, after the events `before`, completes the answer to the output r of the stream n and then the answer to a drain, and nothing else; no input is pending then.
+-- It writes these two: the picture's with the flags and the timestamp, and directly behind it the drain's
+pub record LastPicture (n r flags ts : ℕ) (before : List Event) (e : Event) : Type 0 where
+  pub inputsAnswered : isPending n (isBufferOf 0x100) (ledgerOf before) ≡ false
+  pub picture : Pending
+  pub itsDrain : Pending
+  pub completesBoth : completed (notedOf (length before) e) (ledgerOf before) ≡ picture ∷ itsDrain ∷ []
+  pub ofOutput : (isBufferOf 0x101 (picture .awaited) && eqb (resourceIn (picture .awaited)) r) ≡ true
+  pub ofDrain : itsDrain .awaited ≡ toDrain
+  pub writesBoth : e .bytes ≡ wordBytes (picture .ticket ∷ 24 ∷ 0x0202 ∷ n ∷ []) ++ (littleEndian 8 ts ++ wordBytes (flags ∷ 0 ∷ itsDrain .ticket ∷ 8 ∷ 0x0200 ∷ n ∷ []))
 
--- one of the events accepted a drain of the stream n; those earlier, and those since
-pub record Acceptance (n : ℕ) (es : List Event) : Type 0 where
-  pub earlier : List Event
-  pub acceptedBy : Event
-  pub since : List Event
-  pub eventsAre : es ≡ earlier ++ acceptedBy ∷ since
-  pub isAccepted : accepted acceptedBy ≡ true
-  pub ofDrain : awaitedBy (acceptedBy .step .act) ≡ some toDrain
-  pub ofStream : stepStream (acceptedBy .step .act) ≡ n
+-- what can answer a drain; `self` is the record of the event's stream before it. A report does so only where no input is pending.
+pub data EndsDrain (before : List Event) (e : Event) (self : Option Stream) : Act → Type 0 where
+  byClear : (t : ℕ) (f : List ℕ) → field 4 f 0 ≡ 0x0107 → field 4 f 8 ≡ 0x100 → EndsDrain before e self (command t f)
+  byDestruction : (t : ℕ) (f : List ℕ) → field 4 f 0 ≡ 0x0102 → EndsDrain before e self (command t f)
+  byReport : (n : ℕ) (b : Stream) → self ≡ some b → hasOutputs b ≡ false → isPending n (isBufferOf 0x100) (ledgerOf before) ≡ false → EndsDrain before e self (drained n)
+  behindPicture : (n r flags ts : ℕ) → 2 ≤ flags → LastPicture n r flags ts before e → EndsDrain before e self (finish n 0x101 r flags ts)
 
--- the event e, after the events `before`, answers a drain of the stream n, whose record is `self` then: what e completes is what the acceptance added, and
--- since then EOS was given once where there are outputs, and in no case more than once
-pub record LastPicture (n : ℕ) (before : List Event) (e : Event) (self : Option Stream) : Type 0 where
-  pub acceptance : Acceptance n before
-  pub answers : completed (notedOf (length before) e) (ledgerOf before) ≡ adds (length (acceptance .earlier)) (acceptance .acceptedBy .step .act)
-  pub oneEos : hasOutputs self ≡ true → howMany (givesEos n) (acceptance .since) ≡ 1
-  pub atMostOne : howMany (givesEos n) (acceptance .since) ≤ 1
+-- from a fresh table: an event that answers a drain is a clear of the inputs, a destruction, a drained report on a stream without output resources, or the very
+-- step that answers an output with EOS
+abbrev pub DrainsEnd : Layout → Type 0
+DrainsEnd L =
+    (t : List ℕ) (ss : List Step) (before later : List Event) (e : Event) → tableWords ≤ length t → goodSteps ss ≡ true
+    → tableEvents L (freshen L t .table) ss ≡ before ++ e ∷ later → anyOf (awaits isDrain) (completed (notedOf (length before) e) (ledgerOf before)) ≡ true
+    → EndsDrain before e (onTable L t (stepsOf before) .records (stepStream (e .step .act))) (e .step .act)
 
--- from a fresh table: every accepted drained report answers such a drain
-abbrev pub NoDrainWithoutLast : Layout → Type 0
-NoDrainWithoutLast L =
-    (t : List ℕ) (ss : List Step) (before later : List Event) (e : Event) (n : ℕ) → tableWords ≤ length t → goodSteps ss ≡ true
-    → tableEvents L (freshen L t .table) ss ≡ before ++ e ∷ later → e .step .act ≡ drained n → accepted e ≡ true
-    → LastPicture n before e (onTable L t (stepsOf before) .records n)
+-- the stream lives on, and by its record no drain is pending
+pub record NotDraining (self : Option Stream) : Type 0 where
+  pub leftRecord : Stream
+  pub recordIs : self ≡ some leftRecord
+  pub noDrain : leftRecord .draining ≡ none
+
+-- from a fresh table: an accepted finish with EOS answers its picture and its drain, and after it no drain of its stream is pending, by the ledger and by the record
+abbrev pub NoDrainAfterEos : Layout → Type 0
+NoDrainAfterEos L =
+    (t : List ℕ) (ss : List Step) (before later : List Event) (e : Event) (n qt r flags ts : ℕ) → tableWords ≤ length t → goodSteps ss ≡ true
+    → tableEvents L (freshen L t .table) ss ≡ before ++ e ∷ later → e .step .act ≡ finish n qt r flags ts → 2 ≤ flags → accepted e ≡ true
+    → LastPicture n r flags ts before e
+    × (isPending n isDrain (ledgerOf (before ++ e ∷ [])) ≡ false)
+    × NotDraining (onTable L t (stepsOf (before ++ e ∷ [])) .records n)

@@ -8,7 +8,7 @@ use lib.Dec.{eqb, ltb}
 use Rattle.laws.specs.Tests.{within}
 use Rattle.laws.specs.Lists.{allOf, numbersIn, distinct}
 use Rattle.model.specs.Numbers.{streamPlaces, queueSlots, streamNumbers, firstCoded, lastCoded}
-use Rattle.model.specs.Device.{State, created, queued, dequeued, Slot, free, resource, Queue, Stream, Place, vacant, occupied, Device, drainTicket, slotNumber, placeNumber, isSpent}
+use Rattle.model.specs.Device.{State, created, queued, dequeued, Slot, free, resource, Queue, Stream, Place, vacant, occupied, Device, slotNumber, placeNumber, isSpent}
 use Rattle.model.specs.Commands.{goodExtent}
 use Rattle.model.specs.Steps.{Act, command, finish, drained, Step}
 
@@ -52,7 +52,7 @@ goodDrain (some t) = u32 t
 
 -- a coded format, a drain or none, two queues
 abbrev pub goodStream : Stream → Bool
-goodStream b = within (b .format) firstCoded lastCoded && (goodDrain (drainTicket b) && (goodQueue (b .inputs) && goodQueue (b .outputs)))
+goodStream b = within (b .format) firstCoded lastCoded && (goodDrain (b .draining) && (goodQueue (b .inputs) && goodQueue (b .outputs)))
 
 -- vacant, or a record and its number, of which `goodSpent` asks more
 abbrev pub goodPlace : Place → Bool

@@ -1,7 +1,7 @@
 // The queue types.
 ghost use mathlib.Core.Path.{_≡_};
+ghost use Rattle.model.specs.Device.{isInput};
 ghost use Rattle.model.specs.Frames.{queueNumber, queueNamed};
-ghost use Rattle.model.specs.Commands.{isInput};
 ghost use Rattle.protocol.specs.QueueTypes.{queueTypeOf, queueMeant};
 
 const INPUT: u32 = 0x0100;

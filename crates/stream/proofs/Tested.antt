@@ -8,7 +8,7 @@ use lib.ListN.{set}
 use Rattle.laws.specs.Lists.{isEmpty, isNone}
 use Rattle.laws.specs.InOrder.{accept, _⇒_then_, byTests}
 use Rattle.laws.proofs.InOrder.{tests-accept, tests-hit, tests-miss}
-use Rattle.model.specs.Device.{QueueType, created, queued, Slot, resource, Stream, queueOf, withQueue, drainTicket, withDrain, withSlots, queuedIn, bufferOf, present, noSlot, addResource, setState, freeAll}
+use Rattle.model.specs.Device.{QueueType, created, queued, Slot, resource, Stream, queueOf, withQueue, withDrain, withSlots, queuedIn, bufferOf, present, noSlot, addResource, setState, freeAll}
 use Rattle.model.specs.Frames.{resourceId, timestampSent, frameWidth, frameHeight, frameRate}
 use Rattle.model.specs.Answers.{invalidOperation, outOfMemory, invalidResource, success, parameters}
 use Rattle.model.specs.Replies.{reply, Request, own, fail}
@@ -22,11 +22,11 @@ use Rattle.stream.specs.Queueing.{Placed}
 
 module _ (c : Request) (b : Stream) where
   -- 0x0103
-  pub drain-again : {t : ℕ} → some t ≡ drainTicket b → onDrain c b ≡ fail c invalidOperation
+  pub drain-again : {t : ℕ} → some t ≡ b .draining → onDrain c b ≡ fail c invalidOperation
   unfolding onDrain byTests
   drain-again e = rw (sym e)
 
-  pub drain-new : none ≡ drainTicket b → onDrain c b ≡ reply [] (some (withDrain (some (c .ticket)) b))
+  pub drain-new : none ≡ b .draining → onDrain c b ≡ reply [] (some (withDrain (some (c .ticket)) b))
   unfolding onDrain byTests
   drain-new e = rw (sym e)
 

@@ -1,21 +1,17 @@
 -- What the first words of a block say, and a block with other words there.
 use mathlib.Core.Path.{_≡_, refl, sym, ap, ap₂, _∙_}
-use mathlib.Core.Bool.{Bool, true, false}
-use mathlib.Core.Option.{Option, none, some, Option·map}
+use mathlib.Core.Option.{Option, none, some}
 use mathlib.Core.List.{List, _∷_, _++_, append-assoc}
 use Prim.Native.Nat.{ℕ}
 use native.Mathlib.Omega.{arith}
 use lib.ListN.{length, getD, set, length-append}
-use lib.Dec.{eqb}
 use borrow.Author.Tests.{eqb-false}
-use Rattle.laws.specs.Lists.{isNone}
 use Rattle.laws.specs.Parts.{part, withPart, zeros, pieces}
-use Rattle.laws.proofs.Tests.{never}
 use Rattle.laws.proofs.Parts.{zero-length, zero-at, zeros-append, part-mid, withPart-mid}
-use Rattle.model.specs.Device.{PendingDrain, giveEos, ticketOf, eosGivenFor, Stream, Place, vacant, occupied, newQueue, newStream, drainTicket, withDrain, eosGivenIn, withEos}
+use Rattle.model.specs.Device.{Stream, Place, vacant, occupied, newQueue, newStream, withDrain}
 use Rattle.queue.specs.Words.{queueWords}
 use Rattle.queue.proofs.Records.{queue-length}
-use Rattle.table.specs.Blocks.{drainMark, drainWords, headWords, placeWords}
+use Rattle.table.specs.Blocks.{drainWords, headWords, placeWords}
 use Rattle.table.specs.Search.{isVacant, isStream, headIs}
 
 -- Live or vacant, and the number
@@ -46,40 +42,24 @@ unfolding placeWords headWords
 format-word l n b e = ap (λ (x : List ℕ). getD x 2 0) e
 
 -- the words from 3 on
-no-drain-words : (d : Option PendingDrain) (z r : List ℕ) → getD (drainWords d ++ z ++ r) 0 0 ≡ 0 → none ≡ ticketOf d
+no-drain-words : (d : Option ℕ) (z r : List ℕ) → getD (drainWords d ++ z ++ r) 0 0 ≡ 0 → none ≡ d
 no-drain-words none z r e = refl
-no-drain-words (some d) z r e = absurd (of (d .eosGiven) e)
-  where
-    of : (given : Bool) → _≡_ {A = ℕ} (drainMark given) 0 → ⊥
-    of true e = eqb-false 2 0 refl e
-    of false e = eqb-false 1 0 refl e
+no-drain-words (some t) z r e = absurd (eqb-false 1 0 refl e)
 
-drain-words : (d : Option PendingDrain) (z r : List ℕ) → (getD (drainWords d ++ z ++ r) 0 0 ≡ 0 → ⊥) → some (getD (drainWords d ++ z ++ r) 1 0) ≡ ticketOf d
+drain-words : (d : Option ℕ) (z r : List ℕ) → (getD (drainWords d ++ z ++ r) 0 0 ≡ 0 → ⊥) → some (getD (drainWords d ++ z ++ r) 1 0) ≡ d
 drain-words none z r e = absurd (e refl)
-drain-words (some d) z r e = refl
+drain-words (some t) z r e = refl
 
-given-words : (d : Option PendingDrain) (z r : List ℕ) → eqb (getD (drainWords d ++ z ++ r) 0 0) 2 ≡ eosGivenFor d
-given-words none z r = refl
-given-words (some d) z r = of (d .eosGiven)
-  where
-    of : (given : Bool) → eqb (drainMark given) 2 ≡ given
-    of true = refl
-    of false = refl
-
-give-words : (d : Option PendingDrain) (z r : List ℕ) → isNone (ticketOf d) ≡ false → set (drainWords d ++ z ++ r) 0 2 ≡ drainWords (Option·map giveEos d) ++ z ++ r
-give-words none z r e = never e
-give-words (some d) z r e = refl
-
-put-drain : (d : Option PendingDrain) (z r : List ℕ) (x y : ℕ) → set (set (drainWords d ++ z ++ r) 0 x) 1 y ≡ x ∷ y ∷ (z ++ r)
+put-drain : (d : Option ℕ) (z r : List ℕ) (x y : ℕ) → set (set (drainWords d ++ z ++ r) 0 x) 1 y ≡ x ∷ y ∷ (z ++ r)
 put-drain none z r x y = refl
-put-drain (some d) z r x y = refl
+put-drain (some t) z r x y = refl
 
 module _ (l : List ℕ) (n : ℕ) (b : Stream) (e : l ≡ placeWords (occupied n b)) where
-  pub drain-absent : getD l 3 0 ≡ 0 → none ≡ drainTicket b
+  pub drain-absent : getD l 3 0 ≡ 0 → none ≡ b .draining
   unfolding placeWords headWords
   drain-absent z = no-drain-words (b .draining) (zeros 3) _ (rw e at z)
 
-  pub drain-pending : (getD l 3 0 ≡ 0 → ⊥) → some (getD l 4 0) ≡ drainTicket b
+  pub drain-pending : (getD l 3 0 ≡ 0 → ⊥) → some (getD l 4 0) ≡ b .draining
   unfolding placeWords headWords
   drain-pending z = ap (λ (x : List ℕ). some (getD x 4 0)) e ∙ drain-words (b .draining) (zeros 3) _ (rw e at z)
 
@@ -90,14 +70,6 @@ module _ (l : List ℕ) (n : ℕ) (b : Stream) (e : l ≡ placeWords (occupied n
   pub drain-dropped : set (set l 3 0) 4 0 ≡ placeWords (occupied n (withDrain none b))
   unfolding placeWords headWords
   drain-dropped = ap (λ (x : List ℕ). set (set x 3 0) 4 0) e ∙ ap (λ (x : List ℕ). 1 ∷ n ∷ b .format ∷ x) (put-drain (b .draining) (zeros 3) _ 0 0)
-
-  pub eos-word : eqb (getD l 3 0) 2 ≡ eosGivenIn b
-  unfolding placeWords headWords
-  eos-word = ap (λ (x : List ℕ). eqb (getD x 3 0) 2) e ∙ given-words (b .draining) (zeros 3) _
-
-  pub eos-set : isNone (drainTicket b) ≡ false → set l 3 2 ≡ placeWords (occupied n (withEos b))
-  unfolding placeWords headWords
-  eos-set z = ap (λ (x : List ℕ). set x 3 2) e ∙ ap (λ (x : List ℕ). 1 ∷ n ∷ b .format ∷ x) (give-words (b .draining) (zeros 3) _ z)
 
 -- A new stream
 

@@ -16,20 +16,20 @@ use Rattle.laws.proofs.Tests.{both, and-left, and-right}
 use Rattle.laws.proofs.Parts.{zero-length, zero-at, part-mid, withPart-mid, part-front, withPart-front, lent}
 use Rattle.laws.proofs.Pieces.{pieces-length, pieces-part, pieces-withPart, pieces-read}
 use Rattle.model.specs.Numbers.{tableWords, streamNumbers}
-use Rattle.model.specs.Device.{QueueType, input, output, Queue, PendingDrain, Stream, Place, vacant, occupied, Device, queueOf, withQueue}
+use Rattle.model.specs.Device.{QueueType, input, output, Queue, Stream, Place, vacant, occupied, Device, queueOf, withQueue}
 use Rattle.queue.specs.Words.{queueWords, decodeQueue}
 use Rattle.queue.proofs.Records.{queue-length, decode-queue}
 use Rattle.table.specs.Spent.{spentSize, spentWords, decodeSpent}
-use Rattle.table.specs.Blocks.{queueStart, drainMark, drainWords, headWords, placeWords, blocks, blocksSize, unusedSize, behind, encode, drainIn, decodePlace, placesIn, decode}
+use Rattle.table.specs.Blocks.{queueStart, drainWords, headWords, placeWords, blocks, blocksSize, unusedSize, behind, encode, drainIn, decodePlace, placesIn, decode}
 use Rattle.table.specs.Search.{placeAt, hasAllSlots}
 use Rattle.table.proofs.Bits.{spent-length, decode-spent}
 
 -- Lengths
 
-pub head-length : (n format : ℕ) (d : Option PendingDrain) → length (headWords n format d) ≡ 8
+pub head-length : (n format : ℕ) (d : Option ℕ) → length (headWords n format d) ≡ 8
 unfolding headWords zeros
 head-length n format none = refl
-head-length n format (some d) = refl
+head-length n format (some t) = refl
 
 -- a sized place's queues have sixteen slots each
 pub sized-queue : (q : QueueType) (n : ℕ) (b : Stream) → hasAllSlots (occupied n b) ≡ true → length (queueOf q b .slots) ≡ 16
@@ -177,13 +177,9 @@ module _ (d : Device) (s : allOf hasAllSlots (d .places) ≡ true) (eight : leng
 
 -- Decoding undoes encoding
 
-drain-back : (d : Option PendingDrain) (z r : List ℕ) → drainIn (getD (drainWords d ++ z ++ r) 0 0) (getD (drainWords d ++ z ++ r) 1 0) ≡ d
+drain-back : (d : Option ℕ) (z r : List ℕ) → drainIn (getD (drainWords d ++ z ++ r) 0 0) (getD (drainWords d ++ z ++ r) 1 0) ≡ d
 drain-back none z r = refl
-drain-back (some d) z r = of (d .eosGiven)
-  where
-    of : (given : Bool) → drainIn (drainMark given) (d .ticket) ≡ some (record { ticket = d .ticket; eosGiven = given })
-    of true = refl
-    of false = refl
+drain-back (some t) z r = refl
 
 -- the first of some zeros is no mark of a live stream
 none-live : (n : ℕ) → 0 < n → eqb (getD (zeros n) 0 0) 1 ≡ false

@@ -1,7 +1,7 @@
 -- The statements of specs/Promises, proved: the layout is lawful, valid is exactly the tables of well-formed devices, and condition 3 and the
 -- model's other promises hold over its tables.
 use mathlib.Core.Path.{_≡_, refl, sym, ap, ap₂, _∙_}
-use mathlib.Core.Bool.{Bool, true, false, _&&_}
+use mathlib.Core.Bool.{true, _&&_}
 use mathlib.Core.Option.{Option, none, some}
 use mathlib.Core.List.{List, [], _++_}
 use Prim.Native.Nat.{ℕ, zero, suc, _+_, _*_, _/_, _%_, _^_, _<_}
@@ -20,7 +20,7 @@ use Rattle.laws.proofs.Parts.{zeros-append}
 use Rattle.laws.proofs.Pieces.{all-pieces}
 use Rattle.laws.proofs.Same.{same-refl}
 use Rattle.model.specs.Numbers.{tableWords, streamPlaces, streamNumbers, firstCoded, lastCoded}
-use Rattle.model.specs.Device.{created, queued, dequeued, Slot, free, resource, Queue, PendingDrain, ticketOf, Stream, Place, vacant, occupied, Device, fresh, drainTicket}
+use Rattle.model.specs.Device.{created, queued, dequeued, Slot, free, resource, Queue, Stream, Place, vacant, occupied, Device, fresh}
 use Rattle.model.specs.Commands.{goodExtent}
 use Rattle.model.specs.WellFormed.{u32, u64, goodSlot, goodSlots, goodQueue, goodDrain, goodPlace, wellFormed}
 use Rattle.model.specs.Tables.{valid}
@@ -29,11 +29,11 @@ use Rattle.model.proofs.Tables.{valid-device, valid-used, on-tables, fresh-shor
 use Rattle.model.proofs.Refusals.{only-listed, no-table-refusal}
 use Rattle.model.proofs.SpentForGood.{spent-for-good}
 use Rattle.model.proofs.SpentExactly.{spent-exactly}
-use Rattle.model.proofs.LastPicture.{no-drain-without-last}
+use Rattle.model.proofs.LastPicture.{drains-end, no-drain-after-eos}
 use Rattle.model.proofs.Unchanged.{refusal-changes-nothing, error-changes-nothing, keeps-rest, stays-valid, writes-at-most}
 use Rattle.queue.specs.Words.{slotWords, queueWords}
 use Rattle.table.specs.Spent.{wordNumbers, spentSize, bitsWord, spentWords}
-use Rattle.table.specs.Blocks.{drainMark, drainWords, headWords, placeWords, blocks, blocksSize, unusedSize, behind, encode, decode, layout}
+use Rattle.table.specs.Blocks.{drainWords, headWords, placeWords, blocks, blocksSize, unusedSize, behind, encode, decode, layout}
 use Rattle.table.specs.Search.{hasAllSlots}
 use Rattle.table.specs.Promises.{MeetsLaws, ValidExactly, Narrow, SpentBits, FreshIsZero, ConditionThree, TablePromises}
 use Rattle.table.proofs.Bits.{spent-narrow, numberBit, bit-spent}
@@ -46,11 +46,11 @@ good-slots q h = eqb-true (length (q .slots)) 16 (and-left (eqb (length (q .slot
 
 -- the queues of a good record
 module _ (n : ℕ) (b : Stream) (h : goodPlace (occupied n b) ≡ true) where
-  good-rest : goodDrain (drainTicket b) && (goodQueue (b .inputs) && goodQueue (b .outputs)) ≡ true
+  good-rest : goodDrain (b .draining) && (goodQueue (b .inputs) && goodQueue (b .outputs)) ≡ true
   good-rest = and-right (within (b .format) firstCoded lastCoded) _ (and-right (u32 n) _ h)
 
   good-queues : goodQueue (b .inputs) && goodQueue (b .outputs) ≡ true
-  good-queues = and-right (goodDrain (drainTicket b)) _ good-rest
+  good-queues = and-right (goodDrain (b .draining)) _ good-rest
 
   good-inputs : goodQueue (b .inputs) ≡ true
   good-inputs = and-left (goodQueue (b .inputs)) _ good-queues
@@ -134,16 +134,12 @@ narrow-queue q h =
     (both (and-right (goodExtent (q .height)) _ more)
     (all-pieces u32 slotWords goodSlot narrow-slot (q .slots) (and-left (allOf goodSlot (q .slots)) _ (and-right (eqb (length (q .slots)) 16) _ slots))))))
 
-narrow-drain : (d : Option PendingDrain) → goodDrain (ticketOf d) ≡ true → allOf u32 (drainWords d ++ zeros 3) ≡ true
+narrow-drain : (d : Option ℕ) → goodDrain d ≡ true → allOf u32 (drainWords d ++ zeros 3) ≡ true
 unfolding u32
 narrow-drain none h = narrow-zeros 3
-narrow-drain (some d) h = both (of (d .eosGiven)) (both h (narrow-zeros 3))
-  where
-    of : (given : Bool) → u32 (drainMark given) ≡ true
-    of true = refl
-    of false = refl
+narrow-drain (some t) h = both h (narrow-zeros 3)
 
-narrow-head : (n format : ℕ) (d : Option PendingDrain) → u32 n ≡ true → within format firstCoded lastCoded ≡ true → goodDrain (ticketOf d) ≡ true → allOf u32 (headWords n format d) ≡ true
+narrow-head : (n format : ℕ) (d : Option ℕ) → u32 n ≡ true → within format firstCoded lastCoded ≡ true → goodDrain d ≡ true → allOf u32 (headWords n format d) ≡ true
 unfolding headWords
 narrow-head n format d u w g =
     let high = within-bounds format firstCoded lastCoded w .1 in
@@ -157,7 +153,7 @@ narrow-place (occupied n b) h =
     let ins = queueWords (b .inputs) in
     let outs = queueWords (b .outputs) in
     all-append u32 head (ins ++ (outs ++ zeros 336))
-    ∙ both (narrow-head n (b .format) (b .draining) (and-left (u32 n) _ h) (and-left (within (b .format) firstCoded lastCoded) _ (and-right (u32 n) _ h)) (and-left (goodDrain (drainTicket b)) _ (good-rest n b h)))
+    ∙ both (narrow-head n (b .format) (b .draining) (and-left (u32 n) _ h) (and-left (within (b .format) firstCoded lastCoded) _ (and-right (u32 n) _ h)) (and-left (goodDrain (b .draining)) _ (good-rest n b h)))
     (all-append u32 ins (outs ++ zeros 336)
     ∙ both (narrow-queue (b .inputs) (good-inputs n b h)) (all-append u32 outs (zeros 336) ∙ both (narrow-queue (b .outputs) (good-outputs n b h)) (narrow-zeros 336)))
 
@@ -223,5 +219,6 @@ table-promises =
       writesAtMost = writes-at-most layout;
       spentExactly = spent-exactly layout meets-laws;
       spentForGood = spent-for-good layout meets-laws;
-      noDrainWithoutLast = no-drain-without-last layout meets-laws;
+      drainsEnd = drains-end layout meets-laws;
+      noDrainAfterEos = no-drain-after-eos layout meets-laws;
     }

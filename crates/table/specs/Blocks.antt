@@ -1,18 +1,18 @@
 -- The words of a stream place and of the whole device table, the records that words stand for, and with both the table's layout.
 use Prim.Native.Nat.{ℕ}
-use mathlib.Core.Bool.{Bool, true, false, cond}
+use mathlib.Core.Bool.{cond}
 use mathlib.Core.Option.{Option, none, some}
 use mathlib.Core.List.{List, [], _∷_, _++_}
 use lib.ListN.{take, getD}
 use lib.Dec.{eqb}
 use Rattle.laws.specs.Parts.{part, zeros, pieces, readPieces}
 use Rattle.model.specs.Numbers.{streamPlaces}
-use Rattle.model.specs.Device.{QueueType, input, output, PendingDrain, Place, vacant, occupied, Device}
+use Rattle.model.specs.Device.{QueueType, input, output, Place, vacant, occupied, Device}
 use Rattle.model.specs.Tables.{Layout}
 use Rattle.queue.specs.Words.{queueSize, queueWords, decodeQueue}
 use Rattle.table.specs.Spent.{spentSize, spentWords, decodeSpent}
 
--- a place is a block of 512 words: live (0 or 1), number, coded format, drain (0 to 2), drain ticket, three words without use, the
+-- a place is a block of 512 words: live (0 or 1), number, coded format, drain pending (0 or 1), drain ticket, three words without use, the
 -- input queue from 8, the output queue from 92, and from 176 words without use; words without use are zero, and so is a vacant place
 abbrev pub placeSize : ℕ
 placeSize = 512
@@ -26,18 +26,13 @@ queueStart output = 92
 abbrev pub spareSize : ℕ
 spareSize = 336
 
--- the first word of a pending drain: 1, or 2 where EOS was given
-abbrev pub drainMark : Bool → ℕ
-drainMark false = 1
-drainMark true = 2
-
--- the words of a drain pending or not: its mark and its ticket, or zeros
-abbrev pub drainWords : Option PendingDrain → List ℕ
+-- the words of a drain pending or not: 1 and its ticket, or zeros
+abbrev pub drainWords : Option ℕ → List ℕ
 drainWords none = 0 ∷ 0 ∷ []
-drainWords (some d) = drainMark (d .eosGiven) ∷ d .ticket ∷ []
+drainWords (some t) = 1 ∷ t ∷ []
 
 -- the first eight words of a live stream's block: live, number, coded format, drain, three without use
-unfoldable pub headWords : ℕ → ℕ → Option PendingDrain → List ℕ
+unfoldable pub headWords : ℕ → ℕ → Option ℕ → List ℕ
 headWords n format drain = 1 ∷ n ∷ format ∷ (drainWords drain ++ zeros 3)
 
 -- the words of a place
@@ -67,9 +62,9 @@ encode d = blocks (d .places) ++ behind d
 
 -- The records that words stand for
 
--- a pending drain, from its two words
-abbrev pub drainIn : ℕ → ℕ → Option PendingDrain
-drainIn mark ticket = cond (eqb mark 0) none (some (record { ticket = ticket; eosGiven = eqb mark 2 }))
+-- the ticket of a pending drain, from its two words
+abbrev pub drainIn : ℕ → ℕ → Option ℕ
+drainIn mark ticket = cond (eqb mark 1) (some ticket) none
 
 -- the place that 512 words stand for
 unfoldable pub decodePlace : List ℕ → Place

@@ -7,7 +7,7 @@ use mathlib.Core.List.{List, [], _∷_, _++_}
 use lib.ListN.{replicate}
 use Rattle.laws.specs.Lists.{allOf}
 use Rattle.model.specs.Numbers.{streamPlaces, queueSlots, streamNumbers}
-use Rattle.model.specs.Device.{queued, Slot, resource, Queue, newDrain, giveEos, Place, vacant, occupied, Device, noSlot, noPlace}
+use Rattle.model.specs.Device.{queued, Slot, resource, Queue, Place, vacant, occupied, Device, noSlot, noPlace}
 use Rattle.model.specs.WellFormed.{wellFormed}
 use Rattle.model.specs.Tables.{valid}
 use Rattle.table.specs.Blocks.{encode, layout}
@@ -20,10 +20,10 @@ fullSlots (suc n) = resource n (queued 0xFFFFFFFF 0xFFFFFFFFFFFFFFFF) ∷ fullSl
 abbrev pub fullQueue : Queue
 fullQueue = record { width = 4096; height = 16; rate = 0xFFFFFFFF; slots = fullSlots queueSlots }
 
--- streams n - 1, .., 0, each with a drain pending and EOS given
+-- streams n - 1, .., 0, each with a drain pending
 abbrev pub fullPlaces : ℕ → List Place
 fullPlaces zero = []
-fullPlaces (suc n) = occupied n (record { format = 0x1005; draining = some (giveEos (newDrain 0xFFFFFFFF)); inputs = fullQueue; outputs = fullQueue }) ∷ fullPlaces n
+fullPlaces (suc n) = occupied n (record { format = 0x1005; draining = some 0xFFFFFFFF; inputs = fullQueue; outputs = fullQueue }) ∷ fullPlaces n
 
 abbrev pub fullDevice : Device
 fullDevice = record { places = fullPlaces streamPlaces; spent = replicate streamNumbers true }

@@ -12,7 +12,7 @@ use Rattle.model.specs.Numbers.{tableWords, streamNumbers}
 use Rattle.model.specs.Device.{Device, fresh, isSpent}
 use Rattle.model.specs.WellFormed.{u32, wellFormed}
 use Rattle.model.specs.Tables.{Lawful, valid}
-use Rattle.model.specs.Promises.{FreshShort, FreshLong, RefusalChangesNothing, ErrorChangesNothing, KeepsRest, StaysValid, OnlyListed, NoTableRefusal, WritesAtMost, SpentForGood, SpentExactly, NoDrainWithoutLast}
+use Rattle.model.specs.Promises.{FreshShort, FreshLong, RefusalChangesNothing, ErrorChangesNothing, KeepsRest, StaysValid, OnlyListed, NoTableRefusal, WritesAtMost, SpentForGood, SpentExactly, DrainsEnd, NoDrainAfterEos}
 use Rattle.model.specs.Condition3.{OnTables}
 use Rattle.table.specs.Spent.{wordNumbers}
 use Rattle.table.specs.Blocks.{blocksSize, encode, layout}
@@ -69,5 +69,8 @@ pub record TablePromises : Type 0 where
   pub spentExactly : SpentExactly layout
   -- after an accepted destruction of a stream no step of its number is accepted, and a report for it reaches nobody
   pub spentForGood : SpentForGood layout
-  -- from a fresh table an accepted drained report answers a drain accepted before, and where the stream has outputs one EOS, and only one, was given since
-  pub noDrainWithoutLast : NoDrainWithoutLast layout
+  -- from a fresh table a drain is answered by a clear of the inputs, by the destruction, by a drained report on a stream without output resources, or in the very
+  -- step that answers an output with EOS, directly behind it
+  pub drainsEnd : DrainsEnd layout
+  -- so that after every accepted finish with EOS its stream has no drain pending
+  pub noDrainAfterEos : NoDrainAfterEos layout

@@ -1,12 +1,10 @@
 // Functions on the 512 words of a stream place. The contracts speak of every stream whose words are lent.
 ghost use mathlib.Core.Path.{_≡_};
-ghost use mathlib.Core.Bool.{false};
 ghost use mathlib.Core.Option.{none, some};
 ghost use Prim.Native.Nat.{ℕ, _≤_};
 ghost use lib.ListN.{length};
-ghost use Rattle.laws.specs.Lists.{isNone};
 ghost use Rattle.laws.specs.Parts.{zeros};
-ghost use Rattle.model.specs.Device.{Stream, vacant, occupied, newQueue, newStream, drainTicket, withDrain, eosGivenIn, withEos};
+ghost use Rattle.model.specs.Device.{Stream, vacant, occupied, newQueue, newStream, withDrain};
 ghost use Rattle.queue.specs.Words.{queueWords};
 ghost use Rattle.table.specs.Blocks.{queueStart, placeWords};
 ghost use Rattle.protocol.specs.QueueTypes.{queueTypeOf};
@@ -35,11 +33,6 @@ pub const OUTPUTS: usize = 92;
 
 // The first word behind the queues; from there on words have no use.
 pub const QUEUES_END: usize = 176;
-
-// What the word DRAIN holds while a drain is pending: without EOS, and with EOS given since it was accepted.
-const PENDING: u32 = 1;
-
-pub const EOS_GIVEN: u32 = 2;
 
 // The width and the height that a creation puts into a queue's words.
 const NEW_WIDTH: u32 = 640;
@@ -97,7 +90,7 @@ pub fn coded_format(b: &[u32]) -> u32
 // The pending drain of the block's stream.
 pub fn pending_drain(b: &[u32]) -> DrainState
     requires { ⌜ length (now b) ≡ 512 ⌝ }
-    ensures { λ r. ⌜ ((n : ℕ) (s : Stream) → now (b .entry) ≡ placeWords (occupied n s) → drainOf r ≡ drainTicket s) ⌝ }
+    ensures { λ r. ⌜ ((n : ℕ) (s : Stream) → now (b .entry) ≡ placeWords (occupied n s) → drainOf r ≡ s .draining) ⌝ }
 {
     if b[DRAIN] == 0 {
         return DrainState::Idle;
@@ -110,24 +103,8 @@ pub fn set_drain(b: &mut [u32], ticket: u32)
     requires { ⌜ length (now b) ≡ 512 ⌝ }
     ensures { λ _. ⌜ ((n : ℕ) (s : Stream) → now (b .entry) ≡ placeWords (occupied n s) → now (b .exit) ≡ placeWords (occupied n (withDrain (some ticket) s))) ⌝ }
 {
-    b[DRAIN] = PENDING;
+    b[DRAIN] = 1;
     b[TICKET] = ticket;
-}
-
-// Whether EOS was given for the pending drain of the block's stream.
-pub fn eos_given(b: &[u32]) -> bool
-    requires { ⌜ length (now b) ≡ 512 ⌝ }
-    ensures { λ r. ⌜ ((n : ℕ) (s : Stream) → now (b .entry) ≡ placeWords (occupied n s) → r ≡ eosGivenIn s) ⌝ }
-{
-    b[DRAIN] == EOS_GIVEN
-}
-
-// EOS is given for the pending drain of the block's stream.
-pub fn give_eos(b: &mut [u32])
-    requires { ⌜ length (now b) ≡ 512 ⌝ }
-    ensures { λ _. ⌜ ((n : ℕ) (s : Stream) → isNone (drainTicket s) ≡ false → now (b .entry) ≡ placeWords (occupied n s) → now (b .exit) ≡ placeWords (occupied n (withEos s))) ⌝ }
-{
-    b[DRAIN] = EOS_GIVEN;
 }
 
 // No drain of the block's stream is pending.

@@ -11,7 +11,6 @@ mod search;
 mod spent;
 
 pub use block::DRAIN;
-pub use block::EOS_GIVEN;
 pub use block::FORMAT;
 pub use block::INPUTS;
 pub use block::LIVE;
@@ -22,10 +21,8 @@ pub use block::TICKET;
 pub use block::UNUSED;
 pub use block::coded_format;
 pub use block::drop_drain;
-pub use block::eos_given;
 use block::fill_zero;
 pub use block::free_stream;
-pub use block::give_eos;
 pub use block::new_stream;
 pub use block::pending_drain;
 pub use block::queue_start;

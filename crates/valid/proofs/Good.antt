@@ -13,11 +13,11 @@ use Rattle.laws.specs.Parts.{zeros, pieces}
 use Rattle.laws.proofs.Tests.{both, and-left, and-right}
 use Rattle.laws.proofs.Lists.{all-append}
 use Rattle.model.specs.Numbers.{firstCoded, lastCoded}
-use Rattle.model.specs.Device.{input, output, created, queued, dequeued, Slot, free, resource, Queue, PendingDrain, ticketOf, Stream, occupied}
+use Rattle.model.specs.Device.{input, output, created, queued, dequeued, Slot, free, resource, Queue, Stream, occupied}
 use Rattle.model.specs.Commands.{goodExtent}
 use Rattle.model.specs.WellFormed.{u32, u64, goodSlot, distinctSlots, goodQueue, goodDrain, goodPlace}
 use Rattle.queue.specs.Words.{slotWords, queueWords}
-use Rattle.table.specs.Blocks.{drainMark, drainWords, headWords, placeWords}
+use Rattle.table.specs.Blocks.{drainWords, headWords, placeWords}
 use Rattle.table.specs.Search.{hasAllSlots}
 use Rattle.table.proofs.Records.{sized-queue}
 
@@ -74,9 +74,9 @@ wide-queue q sixteen h =
     turned false true false = refl
     turned false false v = refl
 
-wide-drain : (d : Option PendingDrain) → allOf u32 (drainWords d ++ zeros 3) ≡ true → goodDrain (ticketOf d) ≡ true
+wide-drain : (d : Option ℕ) → allOf u32 (drainWords d ++ zeros 3) ≡ true → goodDrain d ≡ true
 wide-drain none h = refl
-wide-drain (some d) h = and-left (u32 (d .ticket)) _ (and-right (u32 (drainMark (d .eosGiven))) _ h)
+wide-drain (some t) h = and-left (u32 t) _ (and-right (u32 1) _ h)
 
 pub wide-place : (n : ℕ) (b : Stream) → hasAllSlots (occupied n b) ≡ true → allOf u32 (placeWords (occupied n b)) ≡ true
     → goodPlace (occupied n b) ≡ within (b .format) firstCoded lastCoded && (queueRules (b .inputs) && queueRules (b .outputs))

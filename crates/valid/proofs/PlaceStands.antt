@@ -2,12 +2,12 @@
 use mathlib.Core.Path.{_≡_, refl, sym, ap, ap₂, _∙_, subst}
 use mathlib.Core.Bool.{Bool, true, false, _&&_, and-true, and-false, and-assoc}
 use mathlib.Core.List.{List, [], _∷_, _++_}
-use Prim.Native.Nat.{ℕ, _+_, _*_, _^_, _<_, _≤_}
+use Prim.Native.Nat.{ℕ, _+_, _*_, _^_, _<_}
 use native.Mathlib.Omega.{arith}
 use lib.ListN.{length, getD, take, drop, length-drop, List·getD-eq-default}
 use lib.Seq.{drop-drop, take-all, length-take-le, getD-take, getD-drop}
 use lib.Dec.{eqb, ltb, lit<}
-use borrow.Author.Tests.{eqb-false, eq-eqb, ne-eqb, ltb-true, ltb-false}
+use borrow.Author.Tests.{eq-eqb, ne-eqb, ltb-true, ltb-false}
 use Rattle.laws.specs.Lists.{allOf, same, distinct}
 use Rattle.laws.specs.Tests.{allBelow}
 use Rattle.laws.specs.Parts.{part, zeros}
@@ -22,7 +22,7 @@ use Rattle.model.specs.Tables.{valid}
 use Rattle.queue.specs.Words.{queueWords, decodeQueue}
 use Rattle.queue.proofs.Records.{queue-length, decoded-slots}
 use Rattle.table.specs.Spent.{spentSize, spentWords, decodeSpent}
-use Rattle.table.specs.Blocks.{placeSize, drainMark, drainIn, headWords, placeWords, blocks, blocksSize, unusedSize, behind, encode, decodePlace, placesIn, decode, layout}
+use Rattle.table.specs.Blocks.{placeSize, headWords, placeWords, blocks, blocksSize, unusedSize, behind, encode, drainIn, decodePlace, placesIn, decode, layout}
 use Rattle.table.specs.Search.{placeAt, hasAllSlots}
 use Rattle.valid.specs.Rules.{headStands, placeStands, placeSpent, placeValid, numbersFrom, blocksValid}
 use Rattle.table.proofs.Bits.{spent-length, all-words, spent-decoded, spent-again}
@@ -118,10 +118,6 @@ eight P g (a ∷ n ∷ f ∷ o ∷ t ∷ x ∷ y ∷ []) e = absurd (omega arith
 eight P g (a ∷ n ∷ f ∷ o ∷ t ∷ x ∷ y ∷ z ∷ []) e = g a n f o t x y z
 eight P g (a ∷ n ∷ f ∷ o ∷ t ∷ x ∷ y ∷ z ∷ w ∷ r) e = absurd (omega arith)
 
--- 1 and 2 are the drain words of a pending drain
-mark-stands : (o : ℕ) → (o ≡ 0 → ⊥) → o ≤ 2 → eqb o (drainMark (eqb o 2)) ≡ true
-mark-stands o h l = decide (eqb o 2) (λ e. simp e) (λ e. simp e (eq-eqb o 1 (omega (arith, h, l, eqb-false o 2 e))))
-
 module _ (h : List ℕ) (long : length h ≡ 8) where
   pub head-idle : getD h 0 0 ≡ 1 → getD h 3 0 ≡ 0 → same (part 4 4 h) (zeros (length (part 4 4 h))) ≡ headStands h
   unfolding same headWords zeros
@@ -129,17 +125,17 @@ module _ (h : List ℕ) (long : length h ≡ 8) where
       eight (λ x. getD x 0 0 ≡ 1 → getD x 3 0 ≡ 0 → same (part 4 4 x) (zeros (length (part 4 4 x))) ≡ headStands x)
       (λ a n f o t x y z one e. rw (one, e, eqb-same n, eqb-same f, eq-eqb o 0 e)) h long
 
-  pub head-draining : getD h 0 0 ≡ 1 → (getD h 3 0 ≡ 0 → ⊥) → getD h 3 0 ≤ 2 → same (part 5 3 h) (zeros (length (part 5 3 h))) ≡ headStands h
+  pub head-draining : getD h 0 0 ≡ 1 → getD h 3 0 ≡ 1 → same (part 5 3 h) (zeros (length (part 5 3 h))) ≡ headStands h
   unfolding same headWords zeros
   head-draining =
-      eight (λ x. getD x 0 0 ≡ 1 → (getD x 3 0 ≡ 0 → ⊥) → getD x 3 0 ≤ 2 → same (part 5 3 x) (zeros (length (part 5 3 x))) ≡ headStands x)
-      (λ a n f o t x y z one e d. rw (one, ne-eqb o 0 e, mark-stands o e d, eqb-same n, eqb-same f, eqb-same t)) h long
+      eight (λ x. getD x 0 0 ≡ 1 → getD x 3 0 ≡ 1 → same (part 5 3 x) (zeros (length (part 5 3 x))) ≡ headStands x)
+      (λ a n f o t x y z one e. rw (one, e, eqb-same n, eqb-same f, eqb-same t, eq-eqb o 1 e)) h long
 
-  pub head-other : getD h 0 0 ≡ 1 → (getD h 3 0 ≡ 0 → ⊥) → 2 < getD h 3 0 → false ≡ headStands h
+  pub head-other : getD h 0 0 ≡ 1 → (getD h 3 0 ≡ 0 → ⊥) → (getD h 3 0 ≡ 1 → ⊥) → false ≡ headStands h
   unfolding same headWords zeros
   head-other =
-      eight (λ x. getD x 0 0 ≡ 1 → (getD x 3 0 ≡ 0 → ⊥) → 2 < getD x 3 0 → false ≡ headStands x)
-      (λ a n f o t x y z one e d. rw (one, ne-eqb o 0 e, ne-eqb o 2 (λ i. omega (arith, i)), ne-eqb o 1 (λ i. omega (arith, i)), eqb-same n, eqb-same f)) h long
+      eight (λ x. getD x 0 0 ≡ 1 → (getD x 3 0 ≡ 0 → ⊥) → (getD x 3 0 ≡ 1 → ⊥) → false ≡ headStands x)
+      (λ a n f o t x y z one e d. rw (one, ne-eqb o 1 d, ne-eqb o 0 e, eqb-same n, eqb-same f)) h long
 
 -- The whole test of eight blocks: each is that of a place that keeps the rules, and no number stands twice
 

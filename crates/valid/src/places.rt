@@ -20,7 +20,6 @@ use crate::queues::queue_well;
 use protocol::coded_good;
 use table::BLOCKS_WORDS;
 use table::DRAIN;
-use table::EOS_GIVEN;
 use table::FORMAT;
 use table::INPUTS;
 use table::LIVE;
@@ -43,7 +42,7 @@ fn head_stands(h: &[u32]) -> bool
     if drain == 0 {
         return all_zero(&h[TICKET..INPUTS]);
     }
-    if drain <= EOS_GIVEN {
+    if drain == 1 {
         return all_zero(&h[UNUSED..INPUTS]);
     }
     false

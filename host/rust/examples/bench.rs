@@ -102,13 +102,12 @@ fn cases() -> Vec<Case> {
             ],
         },
         Case {
-            name: "drain, EOS and drained, 1 stream",
+            name: "drain, queue and EOS, 1 stream",
             table: small(),
             round: vec![
                 command(guest::drain(0)),
                 command(guest::queue(0, Output, 3, 1)),
                 finish_with(wire::BUFFER_FLAG_EOS, 0, Output, 3),
-                Act::Drained { stream: 0 },
             ],
         },
         Case {

@@ -99,15 +99,16 @@ fn main() {
     host.command("queue output 1", &guest::queue(7, Output, 1, 0));
     host.command("drain", &guest::drain(7));
     host.command("queue input 1, too late", &guest::queue(7, Input, 1, 1066));
-    // Too early: an input is Queued, and then the last output is missing.
-    host.drained();
+    // Too early: an input is Queued.
+    host.finish(Output, 1, wire::BUFFER_FLAG_EOS, 1033);
     host.finish(Input, 2, 0, 0);
+    // The stream has an output, so the last one ends the drain, by the same report.
     host.drained();
     host.finish(Output, 1, wire::BUFFER_FLAG_EOS, 1033);
-    // One last output is enough.
+    // No drain is pending now.
     host.command("queue output 1", &guest::queue(7, Output, 1, 0));
-    host.finish(Output, 1, wire::BUFFER_FLAG_EOS, 1033);
-    host.drained();
+    host.finish(Output, 1, wire::BUFFER_FLAG_EOS, 1066);
+    host.finish(Output, 1, 0, 1066);
 
     host.command("queue input 2", &guest::queue(7, Input, 2, 2033));
     host.command("queue input 1", &guest::queue(7, Input, 1, 2000));

@@ -106,7 +106,8 @@ pub struct Params {
 
 /// The answers of one step, in the order in which they go to the guest.
 ///
-/// There may be none: an accepted queueing or drain is answered by a later step.
+/// There may be none: an accepted queueing or drain is answered by a later step. A finish with EOS has
+/// two, the buffer's and then the drain's; a clear or a destruction may have more.
 #[derive(Clone, Debug)]
 pub struct Answers<'a> {
     rest: &'a [u8],

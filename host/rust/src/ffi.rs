@@ -101,7 +101,7 @@ pub fn command(table: &mut [u32], ticket: u32, frame: &[u8], answers: &mut [u8])
     }
 }
 
-/// A report that a buffer is finished. The numbers may be any.
+/// A report that a buffer is finished, and with EOS its stream's drain too. The numbers may be any.
 pub fn finish(
     table: &mut [u32],
     stream: u32,
@@ -127,7 +127,7 @@ pub fn finish(
     }
 }
 
-/// A report that a stream is drained.
+/// A report that a stream without outputs is drained.
 pub fn drained(table: &mut [u32], stream: u32, answers: &mut [u8]) -> Outcome {
     // SAFETY: as in `command`.
     unsafe {

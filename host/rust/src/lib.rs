@@ -83,7 +83,7 @@ pub struct Finish {
     /// The resource's number.
     pub resource: u32,
     /// [`wire::BUFFER_FLAG_ERR`], and on the last output of a drain [`wire::BUFFER_FLAG_EOS`], alone
-    /// or with it.
+    /// or with it, which ends the drain.
     pub flags: u32,
     /// For an output: that of the input which it was decoded from. Not used for an input.
     pub timestamp: u64,
@@ -180,24 +180,63 @@ impl Decoder {
 
     /// The back end is done with a Queued buffer, whose queueing is now answered.
     ///
-    /// With [`wire::BUFFER_FLAG_EOS`] it is the last output of the pending drain. That is taken once
-    /// for each drain, and leaves the drain pending until it is [`drained`](Decoder::drained).
+    /// With [`wire::BUFFER_FLAG_EOS`] it is the last output of the pending drain, and ends it: there
+    /// are two answers, to the queueing and then to the drain. Other outputs that are Queued stay so.
     ///
     /// # Errors
     ///
-    /// [`Refusal::UnexpectedReport`], [`Refusal::BadFlags`] and [`Refusal::InvalidTable`].
+    /// [`Refusal::InvalidTable`], and of the report itself, tested in this order:
+    ///
+    /// 1. [`Refusal::BadFlags`] for flags above 3;
+    /// 2. [`Refusal::UnexpectedReport`] where that buffer is not Queued now;
+    /// 3. [`Refusal::BadFlags`] for EOS on an input, or with no drain pending;
+    /// 4. [`Refusal::UnexpectedReport`] for EOS while an input is Queued: report the inputs first.
     ///
     /// ```
-    /// use virtio_video_decoder::{Decoder, Finish, QueueType, Refusal};
+    /// use virtio_video_decoder::{wire, Decoder, Finish, QueueType, Refusal};
     ///
-    /// let report = Finish {
-    ///     stream: 7,
+    /// # fn frame(words: &[u32], length: usize) -> Vec<u8> {
+    /// #     let mut bytes: Vec<u8> = words.iter().flat_map(|word| word.to_le_bytes()).collect();
+    /// #     bytes.resize(length, 0);
+    /// #     bytes
+    /// # }
+    /// # let create = frame(&[wire::CMD_STREAM_CREATE, 7, 0, 0, wire::FORMAT_H264], 88);
+    /// # let import = |queue: QueueType| {
+    /// #     let mut import = frame(&[wire::CMD_RESOURCE_CREATE, 7, queue.number(), 5, 1, 1], 88);
+    /// #     import[56] = 1;
+    /// #     import.extend(frame(&[0x8000, 0, 4096], 16));
+    /// #     import
+    /// # };
+    /// # let queue = |queue: QueueType| frame(&[wire::CMD_RESOURCE_QUEUE, 7, queue.number(), 5], 64);
+    /// # let drain = frame(&[wire::CMD_STREAM_DRAIN, 7], 8);
+    /// let mut decoder = Decoder::new();
+    /// decoder.command(1, &create)?;
+    /// decoder.command(2, &import(QueueType::Input))?;
+    /// decoder.command(3, &import(QueueType::Output))?;
+    /// decoder.command(4, &queue(QueueType::Input))?;
+    /// decoder.command(5, &queue(QueueType::Output))?;
+    /// decoder.command(6, &drain)?;
+    ///
+    /// // The last picture comes after the last input.
+    /// let input =
+    ///     Finish { stream: 7, queue: QueueType::Input, resource: 5, flags: 0, timestamp: 0 };
+    /// let last = Finish {
     ///     queue: QueueType::Output,
-    ///     resource: 5,
-    ///     flags: 0,
+    ///     flags: wire::BUFFER_FLAG_EOS,
     ///     timestamp: 1000,
+    ///     ..input
     /// };
-    /// assert_eq!(Decoder::new().finish(report).unwrap_err(), Refusal::UnexpectedReport);
+    /// assert_eq!(decoder.finish(last).unwrap_err(), Refusal::UnexpectedReport);
+    /// assert_eq!(decoder.finish(input)?.next().unwrap().ticket, 4);
+    ///
+    /// // It answers its own queueing, and then the drain.
+    /// let tickets: Vec<u32> = decoder.finish(last)?.map(|answer| answer.ticket).collect();
+    /// assert_eq!(tickets, [5, 6]);
+    ///
+    /// // So no drain is pending.
+    /// decoder.command(7, &queue(QueueType::Output))?;
+    /// assert_eq!(decoder.finish(last).unwrap_err(), Refusal::BadFlags);
+    /// # Ok::<(), Refusal>(())
     /// ```
     pub fn finish(&mut self, report: Finish) -> Result<Answers<'_>, Refusal> {
         let outcome = ffi::finish(
@@ -212,18 +251,19 @@ impl Decoder {
         self.answers(outcome)
     }
 
-    /// The back end has drained the stream, whose drain is now answered.
+    /// The back end has drained a stream without output resources, whose drain is now answered.
     ///
-    /// By then no input is Queued, and an output has been finished with [`wire::BUFFER_FLAG_EOS`]
-    /// since the drain was accepted, so that the guest knows its last picture. A stream that has no
-    /// output resources when the report comes needs no EOS. Outputs may be Queued, and stay so.
+    /// By then no input is Queued. A stream that has outputs, in whatever state, ends its drain with
+    /// the last one: by a [`finish`](Decoder::finish) with [`wire::BUFFER_FLAG_EOS`]. Where none of
+    /// them is Queued, the drain waits until the guest queues one.
     ///
     /// # Errors
     ///
-    /// [`Refusal::UnexpectedReport`] and [`Refusal::InvalidTable`].
+    /// [`Refusal::InvalidTable`], and [`Refusal::UnexpectedReport`] where there is no such stream, no
+    /// drain is pending, an input is Queued or the stream has outputs.
     ///
     /// ```
-    /// use virtio_video_decoder::{wire, Decoder, Finish, QueueType, Refusal};
+    /// use virtio_video_decoder::{wire, Decoder, Refusal};
     ///
     /// # fn frame(words: &[u32], length: usize) -> Vec<u8> {
     /// #     let mut bytes: Vec<u8> = words.iter().flat_map(|word| word.to_le_bytes()).collect();
@@ -235,30 +275,17 @@ impl Decoder {
     /// let mut import = frame(&[wire::CMD_RESOURCE_CREATE, 7, wire::QUEUE_TYPE_OUTPUT, 5, 1, 1], 88);
     /// import[56] = 1; // one entry for the first plane
     /// import.extend(frame(&[0x8000, 0, 4096], 16));
-    /// let queue = frame(&[wire::CMD_RESOURCE_QUEUE, 7, wire::QUEUE_TYPE_OUTPUT, 5], 64);
     ///
-    /// // Without outputs there is no last one to wait for.
+    /// // Without outputs there is no last one that could end the drain.
     /// let mut decoder = Decoder::new();
     /// decoder.command(1, &create)?;
     /// assert_eq!(decoder.command(2, &drain)?.count(), 0);
     /// assert_eq!(decoder.drained(7)?.next().unwrap().ticket, 2);
     ///
-    /// // With one, it has to be reported first, and once.
+    /// // With one, it has to, also where the guest has not queued it yet.
     /// decoder.command(3, &import)?;
-    /// decoder.command(4, &queue)?;
-    /// decoder.command(5, &drain)?;
+    /// decoder.command(4, &drain)?;
     /// assert_eq!(decoder.drained(7).unwrap_err(), Refusal::UnexpectedReport);
-    /// let last = Finish {
-    ///     stream: 7,
-    ///     queue: QueueType::Output,
-    ///     resource: 5,
-    ///     flags: wire::BUFFER_FLAG_EOS,
-    ///     timestamp: 1000,
-    /// };
-    /// assert_eq!(decoder.finish(last)?.next().unwrap().ticket, 4);
-    /// decoder.command(6, &queue)?;
-    /// assert_eq!(decoder.finish(last).unwrap_err(), Refusal::BadFlags);
-    /// assert_eq!(decoder.drained(7)?.next().unwrap().ticket, 5);
     /// # Ok::<(), Refusal>(())
     /// ```
     pub fn drained(&mut self, stream: u32) -> Result<Answers<'_>, Refusal> {

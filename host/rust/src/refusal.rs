@@ -15,7 +15,7 @@ use std::fmt;
 /// assert_eq!(
 ///     refusal.to_string(),
 ///     "no such buffer is queued, no such drain is pending, an input is still queued, \
-///      or EOS was not given (refusal 5)"
+///      or the stream has outputs (refusal 5)"
 /// );
 /// ```
 #[derive(Clone, Copy, Debug, PartialEq, Eq, Hash)]
@@ -29,12 +29,11 @@ pub enum Refusal {
     ShortRoom = 3,
     /// The command is shorter than its header of 8 bytes.
     ShortCommand = 4,
-    /// A finish report names no buffer that is Queued now; or a drained report names no stream with
-    /// a drain pending, one that still has an input Queued, or one that has output resources and
-    /// was given no EOS since the drain was accepted.
+    /// A finish report names no buffer that is Queued now, or has EOS while an input is still Queued;
+    /// or a drained report names no stream with a drain pending, one that still has an input Queued,
+    /// or one that has output resources, in whatever state.
     UnexpectedReport = 5,
-    /// Flags other than ERR and EOS; or EOS on an input, with no drain pending, or a second time for
-    /// the same drain.
+    /// Flags other than ERR and EOS; or EOS on an input, or with no drain pending.
     BadFlags = 6,
 }
 
@@ -69,11 +68,10 @@ impl fmt::Display for Refusal {
             Refusal::ShortCommand => "the command has no whole header",
             Refusal::UnexpectedReport => {
                 "no such buffer is queued, no such drain is pending, an input is still queued, \
-                 or EOS was not given"
+                 or the stream has outputs"
             }
             Refusal::BadFlags => {
-                "flags other than ERR and EOS, or EOS on an input, with no drain pending \
-                 or a second time"
+                "flags other than ERR and EOS, or EOS on an input or with no drain pending"
             }
         };
         write!(f, "{text} (refusal {})", self.number())

@@ -16,7 +16,8 @@ pub const CMD_QUERY_CAPABILITY: u32 = 0x0100;
 pub const CMD_STREAM_CREATE: u32 = 0x0101;
 /// Command of 8 bytes.
 pub const CMD_STREAM_DESTROY: u32 = 0x0102;
-/// Command of 8 bytes, answered once the back end has drained the stream.
+/// Command of 8 bytes, answered behind the last output, which has [`BUFFER_FLAG_EOS`]; in a stream
+/// without outputs once the back end has drained it.
 pub const CMD_STREAM_DRAIN: u32 = 0x0103;
 /// Command of 88 bytes and 16 for each memory entry.
 pub const CMD_RESOURCE_CREATE: u32 = 0x0104;
@@ -87,7 +88,7 @@ pub const FORMAT_VP9: u32 = 0x1005;
 
 /// Buffer flag: decoding failed, or was stopped by a clear or the stream's destruction.
 pub const BUFFER_FLAG_ERR: u32 = 0x0001;
-/// Buffer flag: the last output of a drain. It is given once for each drain.
+/// Buffer flag: the last output of a drain, which ends with it.
 pub const BUFFER_FLAG_EOS: u32 = 0x0002;
 
 /// Streams of a device at a time.

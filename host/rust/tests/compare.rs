@@ -465,8 +465,8 @@ impl Way {
 
     /// The ways to be met by each kind of step.
     fn wanted() -> impl Iterator<Item = Way> {
-        let good = [0, 1, 2].map(Way::GoodDrainWord);
-        let bad = [3, 4, 0x8000_0002, u32::MAX].map(Way::DrainWord);
+        let good = [0, 1].map(Way::GoodDrainWord);
+        let bad = [2, 3, 0x0001_0001, u32::MAX].map(Way::DrainWord);
         let tickets = [DRAIN_AT, DRAIN_AT + 1].map(Way::DrainTicket);
         let drains = good.into_iter().chain(bad).chain(tickets);
         let heads = [INPUT_AT, OUTPUT_AT]
@@ -581,28 +581,17 @@ fn refused_anyway(kind: u32) -> (Act, u32) {
     }
 }
 
-/// Valid tables of each sort: none live, all numbers spent, all full, and some with holes and each
-/// state.
+/// Valid tables of each sort: none live, all numbers spent, all full with drains and without, and some
+/// with holes and each state.
 fn tables_to_spoil(seed: u64) -> Vec<Device> {
     let mut generator = Generator::new(seed);
     let mut over = Device::default();
     over.spent.extend(numbers());
-    let mut full = Device::default();
-    for (number, place) in numbers().rev().zip(&mut full.places) {
-        full.spent.add(number);
-        let mut stream = Stream::new(number, 0x1003);
-        // With EOS given and without, and with tickets that let the drain's word be 0 and not.
-        stream.drain = Some(Drain { ticket: number % 4 / 2, eos_given: number % 2 == 1 });
-        for queue in [&mut stream.input, &mut stream.output] {
-            for (number, slot) in queue.resources.iter_mut().enumerate() {
-                let state = State::Queued { ticket: 8, timestamp: u64::MAX };
-                *slot = Some(Resource { number: number as u32, state });
-            }
-        }
-        *place = Some(stream);
-    }
-    let mut devices = vec![Device::default(), over, full];
-    while devices.len() < 6 {
+    let idle = full(|_| None);
+    // Tickets that let the drain's word be 0, and that do not.
+    let draining = full(|number| Some(number % 2));
+    let mut devices = vec![Device::default(), over, idle, draining];
+    while devices.len() < 7 {
         let device = generator.lent();
         let streams: Vec<&Stream> = device.streams().collect();
         let states = |queued: bool| {
@@ -621,6 +610,24 @@ fn tables_to_spoil(seed: u64) -> Vec<Device> {
         }
     }
     devices
+}
+
+/// A table with every place taken and every resource Queued, and these drains by stream number.
+fn full(drain: impl Fn(u32) -> Option<u32>) -> Device {
+    let mut full = Device::default();
+    for (number, place) in numbers().rev().zip(&mut full.places) {
+        full.spent.add(number);
+        let mut stream = Stream::new(number, 0x1003);
+        stream.drain = drain(number);
+        for queue in [&mut stream.input, &mut stream.output] {
+            for (number, slot) in queue.resources.iter_mut().enumerate() {
+                let state = State::Queued { ticket: 8, timestamp: u64::MAX };
+                *slot = Some(Resource { number: number as u32, state });
+            }
+        }
+        *place = Some(stream);
+    }
+    full
 }
 
 fn variable(name: &str, default: u64) -> u64 {

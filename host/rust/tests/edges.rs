@@ -79,11 +79,16 @@ impl<C: Core + Default> Host<C> {
         assert_eq!(self.command(ticket, &frame(STREAM_DRAIN, 7, 8)), Ok(vec![]));
     }
 
-    /// Queues an output of stream 7 and finishes it with these flags, which is to be taken.
-    fn finish_output(&mut self, resource: u32, flags: u32) {
+    /// Queues an output of stream 7 and finishes it with these flags: EOS ends the drain of this
+    /// ticket, and other flags leave it pending.
+    fn finish_output(&mut self, resource: u32, flags: u32, drain: u32) {
         self.queue(20, OUTPUT, resource, 5);
-        let answer = Ok(vec![buffer(20, 7, 6, flags)]);
-        assert_eq!(self.finish(7, OUTPUT, resource, flags, 6), answer);
+        let (answers, left) = match flags {
+            0 | 1 => (Ok(vec![buffer(20, 7, 6, flags)]), [1, drain]),
+            _ => (last(20, 6, flags, drain), [0, 0]),
+        };
+        assert_eq!(self.finish(7, OUTPUT, resource, flags, 6), answers);
+        assert_eq!(self.drain_words(), left);
     }
 
     /// A finish of stream 7 is refused so, and changes nothing.
@@ -106,6 +111,13 @@ impl<C: Core + Default> Host<C> {
         assert_eq!(self.command(1, &free), ok(1, 7));
     }
 
+    /// Clears a queue of stream 7 that has no Queued buffer, which answers the drain of this ticket.
+    fn clear(&mut self, queue_type: u32, drain: Option<u32>) {
+        let answers = drain.into_iter().chain([3]).map(|ticket| (ticket, vec![0x0200, 7]));
+        let clear = on_queue(QUEUE_CLEAR, 7, queue_type);
+        assert_eq!(self.command(3, &clear), Ok(answers.collect()));
+    }
+
     /// The drain's word and its ticket, of stream 7 in the first place.
     fn drain_words(&self) -> [u32; 2] {
         [self.table[3], self.table[4]]
@@ -126,6 +138,20 @@ impl<C: Core + Default> Host<C> {
     /// The words behind the blocks: those of the spent numbers, and those without use.
     fn behind(&self) -> &[u32] {
         &self.table[4096..4160]
+    }
+
+    /// The step is refused with 2 and changes nothing while word 0 of a queue of stream 7, in the
+    /// first place, is not zero.
+    fn not_taken_with_heads(&mut self, act: &Act) {
+        for head in [INPUT_AT, OUTPUT_AT] {
+            for value in [1, 2, u32::MAX] {
+                self.table[head] = value;
+                let before = self.table.clone();
+                assert_eq!(self.step(act), Err(2));
+                assert_eq!(self.table, before);
+            }
+            self.table[head] = 0;
+        }
     }
 
     /// One step of each kind is refused with 2 and changes nothing.
@@ -234,9 +260,9 @@ fn parameters(ticket: u32, stream: u32, first: &[u32]) -> Answered {
     Ok(vec![(ticket, response)])
 }
 
-/// The drain's word in each of the first four places.
-fn drain_word_of_each(table: &[u32]) -> [u32; 4] {
-    [0, 1, 2, 3].map(|place| table[BLOCK * place + 3])
+/// The drain's ticket in each of the first four places, or 0.
+fn drains_of_each(table: &[u32]) -> [u32; 4] {
+    [0, 1, 2, 3].map(|place| table[BLOCK * place + 3] * table[BLOCK * place + 4])
 }
 
 /// The stream number in a frame.
@@ -246,6 +272,11 @@ fn stream_of(frame: &[u8]) -> u32 {
 
 fn buffer(ticket: u32, stream: u32, timestamp: u64, flags: u32) -> (u32, Vec<u32>) {
     (ticket, vec![0x0202, stream, timestamp as u32, (timestamp >> 32) as u32, flags, 0])
+}
+
+/// The answers to a finish of an output of stream 7 with EOS: the buffer's, then the drain's.
+fn last(ticket: u32, timestamp: u64, flags: u32, drain: u32) -> Answered {
+    Ok(vec![buffer(ticket, 7, timestamp, flags), (drain, vec![0x0200, 7])])
 }
 
 /// Makes a test of a case for the independent device and for the system under test.
@@ -554,15 +585,14 @@ cases! {
         assert_eq!(host.drained(7), Err(5));
         assert_eq!(host.finish(7, INPUT, 1, 0, 1), Ok(vec![buffer(10, 7, 0, 0)]));
         assert_eq!(host.drained(7), Err(5));
-        assert_eq!(host.finish(7, OUTPUT, 1, 2, 1), Ok(vec![buffer(14, 7, 1, 2)]));
-        assert_eq!(host.drained(7), ok(11, 7));
+        assert_eq!(host.finish(7, OUTPUT, 1, 2, 1), last(14, 1, 2, 11));
         assert_eq!(host.drained(7), Err(5));
     }
 
-    /// Without EOS a drained report is refused while there is an output, in each of its states, also
-    /// where the drain was accepted with none, and where the outputs were cleared or others took
-    /// their place; once there is none, it is taken.
-    fn drained_without_eos(host: with_stream) {
+    /// A drained report is refused while there is an output, in each of its states, also where the
+    /// drain was accepted with none, and where the outputs were cleared or others took their place;
+    /// once there is none, it is taken.
+    fn drained_with_outputs(host: with_stream) {
         host.drain(10);
         assert_eq!(host.drain_words(), [1, 10]);
         assert_eq!(host.drained(7), ok(10, 7));
@@ -575,12 +605,11 @@ cases! {
         assert_eq!(host.finish(7, OUTPUT, 1, 0, 6), Ok(vec![buffer(12, 7, 6, 0)]));
         host.not_drained();
         host.queue(13, OUTPUT, 1, 5);
-        for stopped in [vec![buffer(13, 7, 5, 1)], vec![]] {
-            let answers = [stopped, vec![(14, vec![0x0200, 7])]].concat();
-            assert_eq!(host.command(14, &on_queue(QUEUE_CLEAR, 7, OUTPUT)), Ok(answers));
-            assert_eq!(host.drain_words(), [1, 11]);
-            host.not_drained();
-        }
+        let stopped = vec![buffer(13, 7, 5, 1), (14, vec![0x0200, 7])];
+        assert_eq!(host.command(14, &on_queue(QUEUE_CLEAR, 7, OUTPUT)), Ok(stopped));
+        host.not_drained();
+        host.clear(OUTPUT, None);
+        host.not_drained();
         host.destroy_all(OUTPUT);
         assert_eq!(host.drain_words(), [1, 11]);
         host.resource(OUTPUT, 2);
@@ -590,9 +619,9 @@ cases! {
         host.not_drained();
     }
 
-    /// An output in any one place stops it, in each state; outputs that were there when the drain was
-    /// accepted do not.
-    fn drained_without_eos_by_place_of_the_output(host: with_stream) {
+    /// An output in any one place stops a drained report, in each state; outputs that were there when
+    /// the drain was accepted do not.
+    fn drained_by_place_of_the_output(host: with_stream) {
         host.resource(OUTPUT, 3);
         host.drain(10);
         host.destroy_all(OUTPUT);
@@ -626,305 +655,303 @@ cases! {
         host.not_drained();
     }
 
-    /// EOS, with ERR or without, lets a drained report pass; no other finish does.
-    fn flags_that_give_eos(host: with_stream) {
+    /// A finish with EOS answers its buffer and then the drain: 48 bytes. The room behind them stays,
+    /// and of the table nothing changes but the buffer's words and the drain's.
+    fn bytes_and_words_of_the_last_output(host: with_stream) {
+        for queue_type in [INPUT, OUTPUT] {
+            for number in [4, 5] {
+                host.resource(queue_type, number);
+            }
+        }
+        for flags in [2, 3] {
+            host.queue(0x0b0b_0b0b, OUTPUT, 4, u64::MAX);
+            if flags == 2 {
+                host.queue(0x0c0c_0c0c, OUTPUT, 5, u64::MAX);
+            }
+            host.drain(0x0d0d_0d0d);
+            let mut table = host.table.clone();
+            table[3..5].fill(0);
+            table[OUTPUT_AT + 4..][..5].copy_from_slice(&[3, 4, 0, 0, 0]);
+            let timestamp = 0x0123_4567_89ab_cdef;
+            let report = Report { stream: 7, queue_type: OUTPUT, resource: 4, flags, timestamp };
+            let mut room = [0xee; ROOM + 8];
+            let outcome = host.core.finish(&mut host.table, &report, &mut room);
+            assert_eq!(outcome, Outcome { refusal: 0, written: 48 });
+            let buffer = [0x0b0b_0b0b, 24, 0x0202, 7, 0x89ab_cdef, 0x0123_4567, flags, 0];
+            let written = [&buffer[..], &[0x0d0d_0d0d, 8, 0x0200, 7]].concat();
+            let bytes: Vec<u8> = written.into_iter().flat_map(u32::to_le_bytes).collect();
+            assert_eq!(room[..48], bytes);
+            assert_eq!(room[48..], [0xee; ROOM - 40]);
+            assert_eq!(host.table, table);
+        }
+    }
+
+    /// EOS, with ERR or without, ends a drain; no other finish does.
+    fn flags_that_end_a_drain(host: with_stream) {
         host.resource(INPUT, 1);
         host.resource(OUTPUT, 1);
         for flags in [2, 3] {
             host.queue(9, INPUT, 1, 5);
             host.drain(10);
             for plain in [0, 1] {
-                host.finish_output(1, plain);
-                assert_eq!(host.drain_words(), [1, 10]);
+                host.finish_output(1, plain, 10);
             }
             assert_eq!(host.finish(7, INPUT, 1, 0, 6), Ok(vec![buffer(9, 7, 5, 0)]));
             host.not_drained();
-            host.finish_output(1, flags);
-            assert_eq!(host.drain_words(), [2, 10]);
-            assert_eq!(host.drained(7), ok(10, 7));
-            assert_eq!(host.drain_words(), [0, 0]);
+            for plain in [0, 1] {
+                host.finish_output(1, plain, 10);
+            }
+            host.not_drained();
+            host.finish_output(1, flags, 10);
             host.not_drained();
         }
     }
 
-    /// After EOS the outputs do not matter: in each state, and with none left, a drained report is
-    /// taken and leaves them alone.
-    fn drained_after_eos(host: with_stream) {
-        let queued = [2, 1, 30, 5, 0];
-        for (state, output) in
-            [(0, [0; 5]), (1, [1, 1, 0, 0, 0]), (2, queued), (3, [3, 1, 0, 0, 0])]
-        {
-            host.resource(OUTPUT, 1);
-            host.drain(10);
-            host.finish_output(1, 2);
-            match state {
-                0 => host.destroy_all(OUTPUT),
-                1 => {
-                    host.destroy_all(OUTPUT);
-                    host.resource(OUTPUT, 1);
-                }
-                2 => host.queue(30, OUTPUT, 1, 5),
-                _ => {}
-            }
-            assert_eq!(host.drain_words(), [2, 10]);
-            assert_eq!(host.drained(7), ok(10, 7));
-            assert_eq!(host.drain_words(), [0, 0]);
-            assert_eq!(host.table[OUTPUT_AT + 4..][..5], output);
-            assert!(host.command(1, &on_queue(QUEUE_CLEAR, 7, OUTPUT)).is_ok());
-            host.destroy_all(OUTPUT);
+    /// With an input still Queued, EOS is refused with 5, with ERR or without, and is then as if it had
+    /// not come: its buffer can be finished without it, and the last input ends no drain.
+    fn eos_with_an_input_queued(host: with_stream) {
+        for number in [1, 2] {
+            host.resource(INPUT, number);
+            host.resource(OUTPUT, number);
+            host.queue(10 + number, INPUT, number, 5);
+            host.queue(20 + number, OUTPUT, number, 5);
         }
-    }
-
-    /// EOS may come while an input is still Queued; the drained report waits for that.
-    fn eos_before_the_last_input(host: with_stream) {
-        host.resource(INPUT, 1);
-        host.resource(OUTPUT, 1);
-        host.queue(9, INPUT, 1, 5);
         host.drain(10);
-        host.finish_output(1, 2);
-        host.not_drained();
-        assert_eq!(host.drain_words(), [2, 10]);
-        assert_eq!(host.finish(7, INPUT, 1, 0, 6), Ok(vec![buffer(9, 7, 5, 0)]));
-        assert_eq!(host.drain_words(), [2, 10]);
-        assert_eq!(host.drained(7), ok(10, 7));
-    }
-
-    /// A second EOS for a drain is refused with 6, with ERR or without, after the tests that give 5;
-    /// the buffer can then still be finished without it.
-    fn one_eos_per_drain(host: with_stream) {
-        host.resource(INPUT, 1);
-        host.queue(9, INPUT, 1, 5);
-        for output in [1, 2, 3] {
-            host.resource(OUTPUT, output);
-        }
-        for output in [1, 2] {
-            host.queue(output, OUTPUT, output, 5);
-        }
-        for first in [2, 3] {
-            host.drain(10);
-            assert_eq!(host.finish(7, OUTPUT, 1, first, 6), Ok(vec![buffer(1, 7, 6, first)]));
-            for second in [2, 3] {
-                host.not_finished(OUTPUT, 2, second, 6);
-                // Created, Dequeued and absent.
-                for other in [3, 1, 4] {
-                    host.not_finished(OUTPUT, other, second, 5);
-                }
-                host.not_finished(INPUT, 2, second, 5);
-                host.not_finished(0x102, 2, second, 5);
-            }
-            for other in [6, 7, 0x8000_0002] {
-                for output in [1, 2, 4] {
-                    host.not_finished(OUTPUT, output, other, 6);
-                }
-            }
-            assert_eq!(host.drain_words(), [2, 10]);
-            assert_eq!(host.finish(7, OUTPUT, 2, 1, 6), Ok(vec![buffer(2, 7, 6, 1)]));
-            assert_eq!(host.drain_words(), [2, 10]);
-            // The next drain has an EOS of its own.
-            let ended = vec![(10, vec![0x0200, 7]), (11, vec![0x0200, 7])];
-            let stopped = if first == 2 { vec![buffer(9, 7, 5, 1)] } else { vec![] };
-            let answers = [stopped, ended].concat();
-            assert_eq!(host.command(11, &on_queue(QUEUE_CLEAR, 7, INPUT)), Ok(answers));
+        for input in [2, 1] {
             for output in [1, 2] {
-                host.queue(output, OUTPUT, output, 5);
+                host.not_finished(OUTPUT, output, 2, 5);
+                host.not_finished(OUTPUT, output, 3, 5);
+            }
+            host.not_drained();
+            let answer = Ok(vec![buffer(10 + input, 7, 5, 0)]);
+            assert_eq!(host.finish(7, INPUT, input, 0, 6), answer);
+            assert_eq!(host.drain_words(), [1, 10]);
+        }
+        assert_eq!(host.finish(7, OUTPUT, 2, 1, 6), Ok(vec![buffer(22, 7, 6, 1)]));
+        assert_eq!(host.drain_words(), [1, 10]);
+        assert_eq!(host.finish(7, OUTPUT, 1, 3, 6), last(21, 6, 3, 10));
+    }
+
+    /// An input in any one place stops EOS while it is Queued, and in no other state.
+    fn eos_by_place_of_the_input(host: with_stream) {
+        host.resource(OUTPUT, 3);
+        host.queue(9, OUTPUT, 3, 5);
+        host.drain(10);
+        let before = host.table.clone();
+        for slot in 0..16 {
+            let at = INPUT_AT + 4 + 5 * slot;
+            for state in 1..=3 {
+                host.table[at] = state;
+                host.table[at + 1] = 3;
+                if state == 2 {
+                    host.not_finished(OUTPUT, 3, 2, 5);
+                } else {
+                    assert_eq!(host.finish(7, OUTPUT, 3, 2, 6), last(9, 6, 2, 10));
+                }
+                host.table.clone_from(&before);
             }
         }
     }
 
-    /// An EOS that is refused gives none: of an input, of a buffer that is not Queued, with other
-    /// flags, with no drain pending, or with too little room.
-    fn refused_eos(host: with_stream) {
-        host.resource(INPUT, 1);
-        host.resource(OUTPUT, 1);
-        host.resource(OUTPUT, 2);
-        host.queue(9, OUTPUT, 1, 5);
-        for flags in [2, 3] {
-            host.not_finished(OUTPUT, 1, flags, 6);
-            host.not_finished(OUTPUT, 2, flags, 5);
+    /// Flags above 3 (6), then no buffer now Queued (5), then EOS on an input or with no drain pending
+    /// (6), then EOS with an input still Queued (5); before all of them the room (3).
+    fn order_of_the_tests_of_a_finish(host: with_stream) {
+        for number in [1, 2] {
+            host.resource(INPUT, number);
+            host.resource(OUTPUT, number);
         }
         host.queue(8, INPUT, 1, 5);
-        host.drain(10);
-        assert_eq!(host.drain_words(), [1, 10]);
-        for flags in [2, 3] {
-            host.not_finished(INPUT, 1, flags, 6);
-            host.not_finished(INPUT, 2, flags, 5);
-            host.not_finished(OUTPUT, 2, flags, 5);
-            host.not_finished(OUTPUT, 1, flags + 4, 6);
-            let report = Report { stream: 7, queue_type: OUTPUT, resource: 1, flags, timestamp: 0 };
-            let outcome = host.core.finish(&mut host.table, &report, &mut [0; ROOM - 1]);
-            assert_eq!(outcome, Outcome { refusal: 3, written: 0 });
+        host.queue(9, OUTPUT, 1, 5);
+        for early in [6, 5] {
+            for flags in [2, 3] {
+                for (queue_type, resource) in [(INPUT, 2), (INPUT, 3), (OUTPUT, 2), (0x102, 1)] {
+                    host.not_finished(queue_type, resource, flags, 5);
+                    host.not_finished(queue_type, resource, flags + 4, 6);
+                }
+                host.not_finished(INPUT, 1, flags, 6);
+                host.not_finished(OUTPUT, 1, flags, early);
+                for queue_type in [INPUT, OUTPUT] {
+                    host.not_finished(queue_type, 1, flags + 4, 6);
+                    host.not_finished(queue_type, 1, flags | 1 << 31, 6);
+                }
+            }
+            if early == 6 {
+                host.drain(10);
+            }
         }
-        assert_eq!(host.drain_words(), [1, 10]);
         assert_eq!(host.finish(7, INPUT, 1, 0, 6), Ok(vec![buffer(8, 7, 5, 0)]));
-        host.not_drained();
-        assert_eq!(host.finish(7, OUTPUT, 1, 2, 6), Ok(vec![buffer(9, 7, 6, 2)]));
-        assert_eq!(host.drained(7), ok(10, 7));
+        host.not_finished(OUTPUT, 2, 2, 5);
+        host.not_finished(OUTPUT, 1, 6, 6);
+        let before = host.table.clone();
+        let eos = Report { stream: 7, queue_type: OUTPUT, resource: 1, flags: 2, timestamp: 0 };
+        let outcome = host.core.finish(&mut host.table, &eos, &mut [0; ROOM - 1]);
+        assert_eq!(outcome, Outcome { refusal: 3, written: 0 });
+        assert_eq!(host.table, before);
+        assert_eq!(host.finish(7, OUTPUT, 1, 2, 6), last(9, 6, 2, 10));
     }
 
-    /// The mark is kept, on or off, by all that does not answer the drain: a clear of the outputs, one
-    /// more drain, and what is done to resources and parameters.
-    fn what_keeps_the_mark(host: with_stream) {
-        for (flags, word) in [(0, 1), (2, 2)] {
-            host.resource(INPUT, 1);
-            host.resource(OUTPUT, 1);
-            host.drain(10);
-            host.finish_output(1, flags);
-            host.queue(11, OUTPUT, 1, 5);
-            let stopped = vec![buffer(11, 7, 5, 1), (3, vec![0x0200, 7])];
-            for (command, answer) in [
-                (on_queue(QUEUE_CLEAR, 7, OUTPUT), Ok(stopped)),
-                (on_queue(QUEUE_CLEAR, 7, OUTPUT), ok(3, 7)),
-                (frame(STREAM_DRAIN, 7, 8), error(3, 0x0300, 7)),
-                (resource_queue(7, INPUT, 1, 0, 0), error(3, 0x0300, 7)),
-                (resource_create(7, INPUT, 2, &[1], &[(0, 1)]), ok(3, 7)),
-                (resource_create(7, OUTPUT, 2, &[1], &[(0, 1)]), ok(3, 7)),
-                (set_params(7, INPUT, H264, 64, 64, 0), ok(3, 7)),
-                (set_params(7, OUTPUT, 3, 64, 64, 0), ok(3, 7)),
-                (on_queue(RESOURCE_DESTROY_ALL, 7, INPUT), ok(3, 7)),
-                (on_queue(RESOURCE_DESTROY_ALL, 7, OUTPUT), ok(3, 7)),
-                (resource_create(7, OUTPUT, 1, &[1], &[(0, 1)]), ok(3, 7)),
-                (frame(QUERY_CONTROL, 7, 16), error(3, 0x0305, 7)),
-                (stream_create(7, H264, b""), error(3, 0x0302, 7)),
-            ] {
-                assert_eq!(host.command(3, &command), answer);
-                assert_eq!(host.drain_words(), [word, 10]);
-            }
-            host.finish_output(1, 0);
-            assert_eq!(host.drain_words(), [word, 10]);
-            if word == 1 {
-                host.not_drained();
-                host.finish_output(1, 2);
-            }
-            host.queue(12, OUTPUT, 1, 5);
-            host.not_finished(OUTPUT, 1, 2, 6);
-            assert_eq!(host.drain_words(), [2, 10]);
-            assert_eq!(host.drained(7), ok(10, 7));
-            assert_eq!(host.finish(7, OUTPUT, 1, 0, 6), Ok(vec![buffer(12, 7, 6, 0)]));
-            host.destroy_all(OUTPUT);
+    /// After EOS no drain is pending: one more EOS is refused with 6, inputs are taken again, nothing
+    /// answers the drain a second time, and the next drain has an EOS of its own.
+    fn after_the_last_output(host: with_stream) {
+        host.resource(INPUT, 1);
+        for output in [1, 2] {
+            host.resource(OUTPUT, output);
         }
+        for flags in [2, 3] {
+            host.queue(9, OUTPUT, 2, 5);
+            host.drain(10);
+            let input = resource_queue(7, INPUT, 1, 5, 0);
+            assert_eq!(host.command(3, &input), error(3, 0x0300, 7));
+            host.finish_output(1, flags, 10);
+            for queued in [false, true] {
+                host.not_drained();
+                for second in [2, 3] {
+                    host.not_finished(OUTPUT, 2, second, 6);
+                    host.not_finished(OUTPUT, 1, second, 5);
+                }
+                if !queued {
+                    host.queue(11, INPUT, 1, 5);
+                }
+            }
+            let stopped = vec![buffer(11, 7, 5, 1), (3, vec![0x0200, 7])];
+            assert_eq!(host.command(3, &on_queue(QUEUE_CLEAR, 7, INPUT)), Ok(stopped));
+            host.drain(12);
+            assert_eq!(host.finish(7, OUTPUT, 2, flags, 6), last(9, 6, flags, 12));
+            host.clear(INPUT, None);
+            host.clear(OUTPUT, None);
+        }
+        host.destroy(7);
     }
 
-    /// Each answer to a drain drops the mark: a drained report, a clear of the inputs and the
-    /// destruction. The next drain needs an EOS of its own.
-    fn what_drops_the_mark(host: with_stream) {
-        let plain = vec![0x0200, 7];
+    /// A drain with outputs of which none is Queued waits for the guest: each report is refused, until
+    /// an output is queued, which may then carry EOS.
+    fn drain_without_a_queued_output(host: with_stream) {
+        for number in [1, 2] {
+            host.resource(OUTPUT, number);
+        }
+        for output in [1, 2] {
+            // First both are Created, then one is Dequeued.
+            host.drain(10);
+            for number in [1, 2] {
+                for flags in [0, 1, 2, 3] {
+                    host.not_finished(OUTPUT, number, flags, 5);
+                }
+            }
+            host.not_drained();
+            host.finish_output(output, 2, 10);
+        }
+        // Now both are Dequeued.
+        host.drain(11);
+        host.not_drained();
+        host.finish_output(1, 0, 11);
+        host.not_drained();
+        host.finish_output(1, 3, 11);
+    }
+
+    /// A drain is kept by all that does not answer it: a clear of the outputs, one more drain, reports
+    /// that are refused, and what is done to resources and parameters.
+    fn what_keeps_a_drain(host: with_stream) {
+        host.resource(INPUT, 1);
         host.resource(OUTPUT, 1);
         host.drain(10);
-        host.finish_output(1, 2);
-        assert_eq!(host.drained(7), ok(10, 7));
-        assert_eq!(host.drain_words(), [0, 0]);
-        for ticket in [11, 12] {
-            host.drain(ticket);
-            assert_eq!(host.drain_words(), [1, ticket]);
-            host.not_drained();
-            host.finish_output(1, 3);
-            assert_eq!(host.drain_words(), [2, ticket]);
-            let cleared = Ok(vec![(ticket, plain.clone()), (3, plain.clone())]);
-            assert_eq!(host.command(3, &on_queue(QUEUE_CLEAR, 7, INPUT)), cleared);
-            assert_eq!(host.drain_words(), [0, 0]);
-            host.queue(4, OUTPUT, 1, 5);
-            host.not_finished(OUTPUT, 1, 2, 6);
-            assert_eq!(host.finish(7, OUTPUT, 1, 0, 6), Ok(vec![buffer(4, 7, 6, 0)]));
+        host.finish_output(1, 0, 10);
+        host.queue(11, OUTPUT, 1, 5);
+        let stopped = vec![buffer(11, 7, 5, 1), (3, vec![0x0200, 7])];
+        for (command, answer) in [
+            (on_queue(QUEUE_CLEAR, 7, OUTPUT), Ok(stopped)),
+            (on_queue(QUEUE_CLEAR, 7, OUTPUT), ok(3, 7)),
+            (frame(STREAM_DRAIN, 7, 8), error(3, 0x0300, 7)),
+            (resource_queue(7, INPUT, 1, 0, 0), error(3, 0x0300, 7)),
+            (resource_create(7, INPUT, 2, &[1], &[(0, 1)]), ok(3, 7)),
+            (resource_create(7, OUTPUT, 2, &[1], &[(0, 1)]), ok(3, 7)),
+            (set_params(7, INPUT, H264, 64, 64, 0), ok(3, 7)),
+            (set_params(7, OUTPUT, 3, 64, 64, 0), ok(3, 7)),
+            (on_queue(RESOURCE_DESTROY_ALL, 7, INPUT), ok(3, 7)),
+            (on_queue(RESOURCE_DESTROY_ALL, 7, OUTPUT), ok(3, 7)),
+            (resource_create(7, OUTPUT, 1, &[1], &[(0, 1)]), ok(3, 7)),
+            (frame(QUERY_CONTROL, 7, 16), error(3, 0x0305, 7)),
+            (stream_create(7, H264, b""), error(3, 0x0302, 7)),
+        ] {
+            assert_eq!(host.command(3, &command), answer);
+            assert_eq!(host.drain_words(), [1, 10]);
         }
-        host.drain(13);
         host.not_drained();
-        host.finish_output(1, 2);
-        let destroyed = Ok(vec![(13, plain.clone()), (3, plain)]);
+        host.not_finished(OUTPUT, 1, 2, 5);
+        host.finish_output(1, 2, 10);
+    }
+
+    /// What answers a drain: EOS, a drained report with no outputs, a clear of the inputs, and the
+    /// destruction. Each answers it once, and another drain may follow.
+    fn what_ends_a_drain(host: with_stream) {
+        host.resource(OUTPUT, 1);
+        for ticket in [10, 20] {
+            host.drain(ticket);
+            host.finish_output(1, 2, ticket);
+            host.drain(ticket + 1);
+            host.clear(INPUT, Some(ticket + 1));
+            assert_eq!(host.drain_words(), [0, 0]);
+            host.clear(INPUT, None);
+            host.drain(ticket + 2);
+            host.destroy_all(OUTPUT);
+            assert_eq!(host.drained(7), ok(ticket + 2, 7));
+            host.not_drained();
+            host.resource(OUTPUT, 1);
+        }
+        host.drain(30);
+        let plain = vec![0x0200, 7];
+        let destroyed = Ok(vec![(30, plain.clone()), (3, plain)]);
         assert_eq!(host.command(3, &frame(STREAM_DESTROY, 7, 8)), destroyed);
         assert!(host.table[..4096].iter().all(|&word| word == 0));
-        // Another stream in its place begins without.
-        host.create([8]);
-        assert_eq!(host.command(3, &resource_create(8, OUTPUT, 1, &[1], &[(0, 1)])), ok(3, 8));
-        assert_eq!(host.command(14, &frame(STREAM_DRAIN, 8, 8)), Ok(vec![]));
-        assert_eq!(host.drain_words(), [1, 14]);
-        assert_eq!(host.drained(8), Err(5));
     }
 
-    /// EOS and outputs of one stream are nothing to another.
-    fn eos_of_another_stream(host: with_stream) {
-        host.create([8]);
-        for queue_type in [INPUT, OUTPUT] {
-            let import = resource_create(8, queue_type, 1, &[1], &[(0, 1)]);
-            assert_eq!(host.command(3, &import), ok(3, 8));
-        }
-        assert_eq!(host.command(9, &resource_queue(8, OUTPUT, 1, 5, 0)), Ok(vec![]));
-        assert_eq!(host.command(11, &frame(STREAM_DRAIN, 8, 8)), Ok(vec![]));
-        // Stream 7 has no output, stream 8 has one.
-        host.drain(10);
-        assert_eq!(host.drained(8), Err(5));
-        assert_eq!(host.drained(7), ok(10, 7));
-        // Each has an EOS of its own.
-        host.resource(OUTPUT, 1);
-        host.drain(12);
-        host.finish_output(1, 2);
-        assert_eq!([host.table[3], host.table[BLOCK + 3]], [2, 1]);
-        assert_eq!(host.drained(8), Err(5));
-        assert_eq!(host.finish(8, OUTPUT, 1, 2, 6), Ok(vec![buffer(9, 8, 6, 2)]));
-        assert_eq!([host.table[3], host.table[BLOCK + 3]], [2, 2]);
-        assert_eq!(host.drained(7), ok(12, 7));
-        assert_eq!([host.table[3], host.table[BLOCK + 3]], [0, 2]);
-        assert_eq!(host.drained(8), ok(11, 8));
-    }
-
-    /// A drain of one stream, and each answer to it, leaves the marks of the others, on or off, and
-    /// wherever they stand; these are drained after it as they would have been before.
-    fn answers_leave_the_marks_of_others(host: new) {
+    /// A drain is ended alone, each way that there is: those of other streams stay, wherever they
+    /// stand, and neither their inputs nor their outputs stop it.
+    fn drains_of_other_streams(host: new) {
         host.create([8]);
         assert_eq!(host.command(1, &stream_create(7, H264, b"")), ok(1, 7));
         host.create([9, 10]);
-        for (stream, flags) in [(8, 2), (9, 3), (10, 0)] {
-            let import = resource_create(stream, OUTPUT, 1, &[1], &[(0, 1)]);
-            assert_eq!(host.command(1, &import), ok(1, stream));
-            assert_eq!(host.command(30, &resource_queue(stream, OUTPUT, 1, 5, 0)), Ok(vec![]));
-            let ticket = 40 + stream;
-            assert_eq!(host.command(ticket, &frame(STREAM_DRAIN, stream, 8)), Ok(vec![]));
-            let answer = Ok(vec![buffer(30, stream, 6, flags)]);
-            assert_eq!(host.finish(stream, OUTPUT, 1, flags, 6), answer);
+        for stream in [8, 9, 10] {
+            for queue_type in [INPUT, OUTPUT] {
+                let import = resource_create(stream, queue_type, 1, &[1], &[(0, 1)]);
+                assert_eq!(host.command(1, &import), ok(1, stream));
+                let queue = resource_queue(stream, queue_type, 1, 5, 0);
+                assert_eq!(host.command(30, &queue), Ok(vec![]));
+            }
+            assert_eq!(host.command(40 + stream, &frame(STREAM_DRAIN, stream, 8)), Ok(vec![]));
         }
         let plain = vec![0x0200, 7];
         let ended = Ok(vec![(22, plain.clone()), (3, plain)]);
-        for (given, answer) in [
-            (false, DRAINED),
-            (false, QUEUE_CLEAR),
-            (true, DRAINED),
-            (true, QUEUE_CLEAR),
-            (true, STREAM_DESTROY),
-        ] {
-            host.destroy_all(OUTPUT);
+        for end in [FINISH, DRAINED, QUEUE_CLEAR, STREAM_DESTROY] {
             host.drain(22);
-            assert_eq!(drain_word_of_each(&host.table), [2, 1, 2, 1]);
-            if given {
-                host.resource(OUTPUT, 1);
-                host.finish_output(1, 2);
-                assert_eq!(drain_word_of_each(&host.table), [2, 2, 2, 1]);
-            }
-            match answer {
+            assert_eq!(drains_of_each(&host.table), [48, 22, 49, 50]);
+            match end {
+                FINISH => {
+                    host.resource(OUTPUT, 1);
+                    host.queue(21, OUTPUT, 1, 5);
+                    assert_eq!(host.finish(7, OUTPUT, 1, 2, 6), last(21, 6, 2, 22));
+                    host.destroy_all(OUTPUT);
+                }
                 DRAINED => assert_eq!(host.drained(7), ok(22, 7)),
-                QUEUE_CLEAR => assert_eq!(host.command(3, &on_queue(QUEUE_CLEAR, 7, INPUT)), ended),
+                QUEUE_CLEAR => host.clear(INPUT, Some(22)),
                 _ => assert_eq!(host.command(3, &frame(STREAM_DESTROY, 7, 8)), ended),
             }
-            assert_eq!(drain_word_of_each(&host.table), [2, 0, 2, 1]);
+            assert_eq!(drains_of_each(&host.table), [48, 0, 49, 50]);
         }
-        assert_eq!(host.drained(8), ok(48, 8));
-        assert_eq!(drain_word_of_each(&host.table), [0, 0, 2, 1]);
-        assert_eq!(host.drained(10), Err(5));
-        assert_eq!(host.drained(9), ok(49, 9));
-        assert_eq!(drain_word_of_each(&host.table), [0, 0, 0, 1]);
+        assert_eq!(host.finish(9, INPUT, 1, 0, 6), Ok(vec![buffer(30, 9, 5, 0)]));
+        let both = Ok(vec![buffer(30, 9, 6, 3), (49, vec![0x0200, 9])]);
+        assert_eq!(host.finish(9, OUTPUT, 1, 3, 6), both);
+        assert_eq!(drains_of_each(&host.table), [48, 0, 0, 50]);
     }
 
-    /// The drain's word is 0, 1 or 2; its ticket is 0 where the word is 0, and any where it is not.
+    /// The drain's word is 0 or 1; its ticket is 0 where the word is 0, and any where it is 1.
     fn drain_words_of_a_table(host: with_stream) {
-        host.resource(OUTPUT, 1);
         for ticket in [0, 1, u32::MAX] {
             host.table[4] = ticket;
-            for word in [3, 4, 5, 0x0001_0002, 0x8000_0000, 0x8000_0002, u32::MAX] {
+            for word in [2, 3, 4, 0x0001_0001, 0x8000_0000, 0x8000_0001, u32::MAX] {
                 host.table[3] = word;
                 host.invalid();
             }
-            // Pending without EOS, and with it.
             host.table[3] = 1;
-            host.not_drained();
-            host.table[3] = 2;
             assert_eq!(host.drained(7), ok(ticket, 7));
             assert_eq!(host.drain_words(), [0, 0]);
             // Not pending.
@@ -966,12 +993,13 @@ cases! {
             (command(resource_queue(7, OUTPUT, 1, 6, 0)), Ok(vec![])),
             (command(frame(STREAM_DRAIN, 7, 8)), Ok(vec![])),
             (report(INPUT, 0), Ok(vec![buffer(3, 7, 5, 0)])),
-            (report(OUTPUT, 2), Ok(vec![buffer(3, 7, 8, 2)])),
-            (Act::Drained { stream: 7 }, ok(3, 7)),
+            (report(OUTPUT, 2), last(3, 8, 2, 3)),
             (command(on_queue(QUEUE_CLEAR, 7, INPUT)), ok(3, 7)),
             (command(on_queue(QUEUE_CLEAR, 7, OUTPUT)), ok(3, 7)),
             (command(resource_create(7, INPUT, 2, &[1], &[(0, 1)])), ok(3, 7)),
             (command(on_queue(RESOURCE_DESTROY_ALL, 7, OUTPUT)), ok(3, 7)),
+            (command(frame(STREAM_DRAIN, 7, 8)), Ok(vec![])),
+            (Act::Drained { stream: 7 }, ok(3, 7)),
             (command(set_params(7, INPUT, H264, 16, 16, 0)), ok(3, 7)),
             (command(on_queue(GET_PARAMS, 7, INPUT)), parameters(3, 7, &input)),
             (command(frame(QUERY_CONTROL, 7, 16)), error(3, 0x0305, 7)),
@@ -982,15 +1010,7 @@ cases! {
             (command(stream_create(2, MPEG2, b"")), ok(3, 2)),
             (command(frame(STREAM_DESTROY, 7, 8)), ok(3, 7)),
         ] {
-            for head in [INPUT_AT, OUTPUT_AT] {
-                for value in [1, 2, u32::MAX] {
-                    host.table[head] = value;
-                    let before = host.table.clone();
-                    assert_eq!(host.step(&act), Err(2));
-                    assert_eq!(host.table, before);
-                }
-                host.table[head] = 0;
-            }
+            host.not_taken_with_heads(&act);
             assert_eq!(host.step(&act), answer);
         }
     }
@@ -1022,13 +1042,12 @@ cases! {
         assert_eq!(host.finish(7, OUTPUT, 1, 2, 0), Err(6));
         host.drain(3);
         assert_eq!(host.finish(7, INPUT, 1, 2, 0), Err(6));
-        assert_eq!(host.finish(7, OUTPUT, 1, 3, 5), Ok(vec![buffer(2, 7, 5, 3)]));
         assert_eq!(host.finish(7, INPUT, 1, 1, 5), Ok(vec![buffer(1, 7, 0, 1)]));
-        assert_eq!(host.drained(7), ok(3, 7));
+        assert_eq!(host.finish(7, OUTPUT, 1, 3, 5), last(2, 5, 3, 3));
     }
 
-    /// A buffer is answered with 0x0202, finished or stopped; a drain, reported or stopped, with
-    /// 0x0200, and so is plain success.
+    /// A buffer is answered with 0x0202, finished or stopped; a drain, ended by a report or stopped,
+    /// with 0x0200, and so is plain success.
     fn types_of_answers(host: with_stream) {
         host.resource(INPUT, 1);
         host.resource(OUTPUT, 1);
@@ -1038,8 +1057,8 @@ cases! {
         let input = vec![0x0202, 7, 5, 0, 1, 0];
         assert_eq!(host.finish(7, INPUT, 1, 1, 8), Ok(vec![(10, input)]));
         let output = vec![0x0202, 7, 8, 0, 2, 0];
-        assert_eq!(host.finish(7, OUTPUT, 1, 2, 8), Ok(vec![(11, output)]));
-        assert_eq!(host.drained(7), Ok(vec![(12, vec![0x0200, 7])]));
+        let ended = vec![(11, output), (12, vec![0x0200, 7])];
+        assert_eq!(host.finish(7, OUTPUT, 1, 2, 8), Ok(ended));
 
         host.queue(13, INPUT, 1, 5);
         host.queue(14, OUTPUT, 1, 6);
@@ -1228,9 +1247,9 @@ cases! {
         assert_eq!(host.command(14, &frame(STREAM_DRAIN, 8, 8)), Ok(vec![]));
         host.late();
         assert_eq!(host.finish(8, INPUT, 1, 0, 9), Ok(vec![buffer(13, 8, 6, 0)]));
-        assert_eq!(host.finish(8, OUTPUT, 1, 2, 9), Ok(vec![buffer(13, 8, 9, 2)]));
         host.late();
-        assert_eq!(host.drained(8), ok(14, 8));
+        let both = Ok(vec![buffer(13, 8, 9, 2), (14, vec![0x0200, 8])]);
+        assert_eq!(host.finish(8, OUTPUT, 1, 2, 9), both);
         host.late();
     }
 

@@ -119,49 +119,115 @@ fn the_independent_log_by_hand() {
     assert_eq!(text(&answers(&input)), output);
 }
 
-/// A drained report waits for EOS, which is given once; with no outputs it does not.
+/// Steps of stream 7 with its buffers 1, and what is written for them. Tickets and timestamps differ,
+/// so that an answer shows whose it carries.
+mod by_hand {
+    use super::*;
+
+    pub fn told(ticket: u32, frame: Vec<u8>) -> Act {
+        Act::Command { ticket, frame }
+    }
+
+    pub fn import(queue_type: u32) -> Act {
+        told(2, frames::resource_create(7, queue_type, 1, &[1], &[(0, 1)]))
+    }
+
+    /// An input is queued under ticket 3, an output under 4.
+    pub fn queue(queue_type: u32) -> Act {
+        let ticket = if queue_type == INPUT { 3 } else { 4 };
+        told(ticket, frames::resource_queue(7, queue_type, 1, 8, 0))
+    }
+
+    pub fn drain(ticket: u32) -> Act {
+        told(ticket, frames::frame(STREAM_DRAIN, 7, 8))
+    }
+
+    pub fn finish(queue_type: u32, flags: u32) -> Act {
+        Act::Finish(Report { stream: 7, queue_type, resource: 1, flags, timestamp: 9 })
+    }
+
+    pub fn drained() -> Act {
+        Act::Drained { stream: 7 }
+    }
+
+    pub fn done(ticket: u32) -> String {
+        format!("80{ticket:02x}0000000002000007000000\n")
+    }
+
+    /// An input that is finished, with its own timestamp.
+    pub fn input(flags: u32) -> String {
+        format!("8003000000020200000700000008000000000000000{flags}00000000000000\n")
+    }
+
+    /// An output that is finished, with the report's timestamp.
+    pub fn output(flags: u32) -> String {
+        format!("8004000000020200000700000009000000000000000{flags}00000000000000\n")
+    }
+
+    pub fn refused(number: u32) -> String {
+        format!("ff0{number}\n")
+    }
+
+    /// The stream is created, and each step is answered so.
+    pub fn check<const STEPS: usize>(cases: [(Act, String); STEPS]) {
+        let mut log = Log::default();
+        let create = told(1, frames::stream_create(7, 0x1000, b""));
+        for (act, written) in [(create, done(1))].into_iter().chain(cases) {
+            assert_eq!(text(&log.line(&line_of(&act))), written, "{act:x?}");
+        }
+    }
+}
+
+/// EOS answers the buffer and then the drain, once a drain is pending and no input is Queued.
 #[test]
 fn the_last_picture_by_hand() {
-    let told = |ticket, frame| Act::Command { ticket, frame };
-    let finish = |flags| {
-        let (queue_type, resource) = (OUTPUT, 1);
-        Act::Finish(Report { stream: 7, queue_type, resource, flags, timestamp: 9 })
-    };
-    let queue = || told(3, frames::resource_queue(7, OUTPUT, 1, 8, 0));
-    let drain = |ticket| told(ticket, frames::frame(STREAM_DRAIN, 7, 8));
-    let drained = || Act::Drained { stream: 7 };
-    let done = |ticket| format!("80{ticket:02x}0000000002000007000000\n");
-    let buffer =
-        |flags| format!("8003000000020200000700000009000000000000000{flags}00000000000000\n");
-    let cases = [
-        (told(1, frames::stream_create(7, 0x1000, b"")), done(1)),
-        (drain(4), String::new()),
-        (drained(), done(4)),
-        (told(2, frames::resource_create(7, OUTPUT, 1, &[1], &[(0, 1)])), done(2)),
+    use by_hand::*;
+    check([
+        (import(INPUT), done(2)),
+        (import(OUTPUT), done(2)),
+        (queue(INPUT), String::new()),
+        (queue(OUTPUT), String::new()),
+        (finish(OUTPUT, 2), refused(6)),
         (drain(5), String::new()),
-        (drained(), "ff05\n".into()),
-        (queue(), String::new()),
-        (drained(), "ff05\n".into()),
-        (finish(1), buffer(1)),
-        (drained(), "ff05\n".into()),
-        (queue(), String::new()),
-        (finish(3), buffer(3)),
-        (finish(2), "ff05\n".into()),
-        (queue(), String::new()),
-        (finish(2), "ff06\n".into()),
-        (finish(3), "ff06\n".into()),
-        (drained(), done(5)),
-        (finish(2), "ff06\n".into()),
-        (finish(0), buffer(0)),
+        (finish(OUTPUT, 2), refused(5)),
+        (finish(OUTPUT, 6), refused(6)),
+        (finish(INPUT, 2), refused(6)),
+        (finish(INPUT, 0), input(0)),
+        (finish(INPUT, 2), refused(5)),
+        (finish(OUTPUT, 1), output(1)),
+        (finish(OUTPUT, 2), refused(5)),
+        (queue(OUTPUT), String::new()),
+        (finish(OUTPUT, 3), output(3) + &done(5)),
+        (queue(OUTPUT), String::new()),
+        (finish(OUTPUT, 2), refused(6)),
         (drain(6), String::new()),
-        (drained(), "ff05\n".into()),
+        (finish(OUTPUT, 2), output(2) + &done(6)),
+    ]);
+}
+
+/// A drained report is for streams without outputs.
+#[test]
+fn drained_reports_by_hand() {
+    use by_hand::*;
+    check([
+        (drained(), refused(5)),
+        (drain(5), String::new()),
+        (drained(), done(5)),
+        (drained(), refused(5)),
+        (import(INPUT), done(2)),
+        (queue(INPUT), String::new()),
+        (drain(6), String::new()),
+        (drained(), refused(5)),
+        (finish(INPUT, 0), input(0)),
+        (import(OUTPUT), done(2)),
+        (drained(), refused(5)),
+        (queue(OUTPUT), String::new()),
+        (drained(), refused(5)),
+        (finish(OUTPUT, 0), output(0)),
+        (drained(), refused(5)),
         (told(7, frames::on_queue(RESOURCE_DESTROY_ALL, 7, OUTPUT)), done(7)),
         (drained(), done(6)),
-    ];
-    let mut log = Log::default();
-    for (act, written) in cases {
-        assert_eq!(text(&log.line(&line_of(&act))), written, "{act:x?}");
-    }
+    ]);
 }
 
 #[test]
@@ -371,7 +437,8 @@ fn not_told_apart(logs: &[(String, Vec<u8>, Vec<u8>)]) -> Vec<String> {
     missed
 }
 
-/// Places, states that go on alike, the table's words and rooms do not show in a log.
+/// Places, states that go on alike, the table's words and rooms do not show in a log, and a queue's
+/// last slot hardly does.
 fn shown_by_logs(slip: &Slip) -> bool {
     !slip.of_words()
         && !matches!(
@@ -379,6 +446,7 @@ fn shown_by_logs(slip: &Slip) -> bool {
             Slip::HighestPlace
                 | Slip::HighestSlot
                 | Slip::OutputsSeenBelow(_)
+                | Slip::QueuedInputsSeenBelow(_, 2..)
                 | Slip::StreamsMoveDown
                 | Slip::StoppedIsCreated
                 | Slip::FinishedIsCreated

@@ -90,53 +90,38 @@ fn a_finish_passes_every_field() {
 }
 
 #[test]
-fn a_drain_is_answered_when_drained() {
+fn a_drain_is_answered_with_the_last_output() {
     let mut decoder = ready();
-    decoder.command(3, &guest::queue(7, Input, 2, 40)).unwrap();
-    decoder.command(4, &guest::queue(7, Output, 1, 0)).unwrap();
-    assert_eq!(decoder.command(5, &guest::drain(7)).unwrap().count(), 0);
-    assert_eq!(decoder.drained(7).unwrap_err(), Refusal::UnexpectedReport);
-    decoder.finish(finish(Input, 2, 0)).unwrap();
-    assert_eq!(decoder.drained(7).unwrap_err(), Refusal::UnexpectedReport);
-    let last = read(decoder.finish(finish(Output, 1, wire::BUFFER_FLAG_EOS)).unwrap());
-    assert_eq!(last, [buffer(4, u64::MAX, wire::BUFFER_FLAG_EOS)]);
-    assert_eq!(read(decoder.drained(7).unwrap()), [done(5)]);
-    assert_eq!(decoder.drained(7).unwrap_err(), Refusal::UnexpectedReport);
-}
-
-#[test]
-fn a_drain_has_one_last_output() {
-    let mut decoder = ready();
-    decoder.command(3, &guest::drain(7)).unwrap();
     for flags in [wire::BUFFER_FLAG_EOS, wire::BUFFER_FLAG_EOS | wire::BUFFER_FLAG_ERR] {
+        let last = finish(Output, 1, flags);
+        decoder.command(3, &guest::queue(7, Input, 2, 40)).unwrap();
         decoder.command(4, &guest::queue(7, Output, 1, 0)).unwrap();
-        let last = read(decoder.finish(finish(Output, 1, flags)).unwrap());
-        assert_eq!(last, [buffer(4, u64::MAX, flags)]);
-        assert_eq!(
-            decoder.finish(finish(Output, 1, flags)).unwrap_err(),
-            Refusal::UnexpectedReport
-        );
-        decoder.command(5, &guest::queue(7, Output, 1, 0)).unwrap();
-        assert_eq!(decoder.finish(finish(Output, 1, flags)).unwrap_err(), Refusal::BadFlags);
-        // Saved and put back, it is still known.
-        let mut saved = Decoder::from_words(decoder.table());
-        assert_eq!(saved.finish(finish(Output, 1, flags)).unwrap_err(), Refusal::BadFlags);
-        assert_eq!(read(saved.drained(7).unwrap()), [done(3)]);
-        // Once the drain is answered, another has its own.
-        assert_eq!(tell(&mut decoder, &guest::clear(7, Input)), [done(3), done(0)]);
-        decoder.finish(finish(Output, 1, 0)).unwrap();
-        decoder.command(3, &guest::drain(7)).unwrap();
+        assert_eq!(decoder.finish(last).unwrap_err(), Refusal::BadFlags);
+        assert_eq!(decoder.command(5, &guest::drain(7)).unwrap().count(), 0);
+        // Not before the last input.
+        assert_eq!(decoder.finish(last).unwrap_err(), Refusal::UnexpectedReport);
+        decoder.finish(finish(Input, 2, 0)).unwrap();
         assert_eq!(decoder.drained(7).unwrap_err(), Refusal::UnexpectedReport);
+        let answers = decoder.finish(last).unwrap();
+        assert_eq!(answers.as_bytes().len(), 32 + 16);
+        assert_eq!(read(answers), [buffer(4, u64::MAX, flags), done(5)]);
+        // And not a second time.
+        assert_eq!(decoder.drained(7).unwrap_err(), Refusal::UnexpectedReport);
+        assert_eq!(tell(&mut decoder, &guest::clear(7, Input)), [done(0)]);
+        decoder.command(6, &guest::queue(7, Output, 1, 0)).unwrap();
+        assert_eq!(decoder.finish(last).unwrap_err(), Refusal::BadFlags);
+        decoder.finish(finish(Output, 1, 0)).unwrap();
     }
 }
 
 #[test]
-fn a_drain_without_outputs_needs_no_last_one() {
+fn a_drain_without_outputs_is_answered_when_drained() {
     let mut decoder = ready();
     decoder.command(3, &guest::drain(7)).unwrap();
     assert_eq!(decoder.drained(7).unwrap_err(), Refusal::UnexpectedReport);
     assert_eq!(tell(&mut decoder, &guest::destroy_all(7, Output)), [done(0)]);
     assert_eq!(read(decoder.drained(7).unwrap()), [done(3)]);
+    assert_eq!(decoder.drained(7).unwrap_err(), Refusal::UnexpectedReport);
 }
 
 #[test]
@@ -238,9 +223,9 @@ fn numbers_are_spent_until_a_reset() {
 
 #[test]
 fn words_of_no_device_are_refused() {
-    // Words without use, a drain's word above 2, a ticket with no drain, and the number of the live
+    // Words without use, a drain's word above 1, a ticket with no drain, and the number of the live
     // stream, which is no longer spent.
-    for (word, value) in [(511, 1), (wire::TABLE_WORDS - 1, 1), (3, 3), (4, 1), (4096, 0)] {
+    for (word, value) in [(511, 1), (wire::TABLE_WORDS - 1, 1), (3, 2), (4, 1), (4096, 0)] {
         let mut words = *ready().table();
         assert_ne!(words[word], value);
         words[word] = value;

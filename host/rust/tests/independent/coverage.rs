@@ -21,12 +21,12 @@ pub const REASONS: &[(u32, Why, u32)] = &[
     (FINISH, "no buffer now Queued", 5),
     (FINISH, "EOS on an input", 6),
     (FINISH, "EOS with no drain owed", 6),
-    (FINISH, "a second EOS", 6),
+    (FINISH, "EOS with an input still Queued", 5),
     (DRAINED, "answer buffer under 1,056 bytes", 3),
     (DRAINED, "no such stream", 5),
     (DRAINED, "no drain owed", 5),
     (DRAINED, "an input still Queued", 5),
-    (DRAINED, "EOS not given, and outputs there", 5),
+    (DRAINED, "output resources there", 5),
     (UNKNOWN, "unknown type or 0x0100", INVALID_OPERATION),
     (STREAM_CREATE, "wrong length", INVALID_PARAMETER),
     (STREAM_CREATE, "number spent", INVALID_STREAM),
@@ -108,12 +108,13 @@ pub const SUCCESSES: &[(u32, u32)] = &[
     (DRAINED, 0),
 ];
 
-/// Types of the answers to what was owed: those of buffers, finished or stopped, and of drains,
-/// reported or stopped.
+/// Types of the answers to what was owed: those of buffers, finished or stopped, and of drains, ended
+/// by a report or stopped.
 pub const OWED: &[(u32, u32)] = &[
     (FINISH, OK_RESOURCE_QUEUE),
     (QUEUE_CLEAR, OK_RESOURCE_QUEUE),
     (STREAM_DESTROY, OK_RESOURCE_QUEUE),
+    (FINISH, OK_NODATA),
     (DRAINED, OK_NODATA),
     (QUEUE_CLEAR, OK_NODATA),
     (STREAM_DESTROY, OK_NODATA),
@@ -174,10 +175,9 @@ const EDGES: &[(&str, u32)] = &[
     ("drain's word 0, its ticket not 0", 2),
     ("drain's word 1, its ticket 0", OK_NODATA),
     ("drain's word 1, its ticket not 0", OK_NODATA),
-    ("drain's word 2, its ticket 0", OK_NODATA),
-    ("drain's word 2, its ticket not 0", OK_NODATA),
-    ("drain's word 3", 2),
-    ("drain's word above 3", 2),
+    ("drain's word 2, its ticket 0", 2),
+    ("drain's word 2, its ticket not 0", 2),
+    ("drain's word above 2", 2),
     ("live number not spent", 2),
     ("live number 1,024", 2),
     ("live number 1,024 above a spent one", 2),
@@ -229,7 +229,7 @@ const OTHER_FAULTS: [(Why, u32); 7] = [
 const LENGTHS: [usize; 5] = [4095, 4096, 4159, 4160, 4161];
 
 /// Deep states, and whether these records or the step that led to them are such.
-fn depths(device: &Device, written: &[u8], words: usize) -> [(Why, bool); 18] {
+fn depths(device: &Device, written: &[u8], words: usize) -> [(Why, bool); 17] {
     let queues = || device.streams().flat_map(|stream| [&stream.input, &stream.output]);
     let queued = |stream: &Stream| stream.input.queued() + stream.output.queued();
     let on_both = |stream: &Stream| {
@@ -238,8 +238,7 @@ fn depths(device: &Device, written: &[u8], words: usize) -> [(Why, bool); 18] {
     };
     let live = device.streams().count();
     let drains = device.streams().filter(|stream| stream.drain.is_some()).count();
-    let marked = device.streams().filter(|stream| stream.eos_given()).count();
-    let marked_zero = Some(Drain { ticket: 0, eos_given: true });
+    let of_zero = device.streams().any(|stream| stream.drain == Some(0));
     let hole = has_hole(&device.places) || queues().any(|queue: &Queue| has_hole(&queue.resources));
     // The last two answers are then the drain's and the command's own.
     let together = types(written).ends_with(&[OK_RESOURCE_QUEUE, OK_NODATA, OK_NODATA]);
@@ -251,8 +250,7 @@ fn depths(device: &Device, written: &[u8], words: usize) -> [(Why, bool); 18] {
         ("32 Queued in a stream", device.streams().any(|stream| queued(stream) == 2 * SLOTS)),
         ("100 Queued in a table", device.streams().map(queued).sum::<usize>() >= 100),
         ("4 drains owed", drains >= 4),
-        ("2 drains with EOS given and 2 without", marked >= 2 && drains >= marked + 2),
-        ("EOS given, the ticket 0", device.streams().any(|stream| stream.drain == marked_zero)),
+        ("a drain owed, its ticket 0", of_zero),
         ("a free place before a used one", hole),
         ("one resource number on both queues", device.streams().any(on_both)),
         ("1,056 bytes written", written.len() == ROOM),
@@ -353,9 +351,7 @@ impl Coverage {
         for name in self.pasts.names(before, act) {
             self.edges.add((name, given));
         }
-        if done.why.is_none() {
-            self.pasts.note(before, act);
-        }
+        self.pasts.note(before, act, done.why);
     }
 
     fn count_number(&mut self, before: &Device, act: &Act, done: &Done, given: u32) {

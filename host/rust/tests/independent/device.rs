@@ -114,19 +114,12 @@ pub struct Spent(pub [u32; NUMBERS / 32]);
 pub struct Stream {
     pub number: u32,
     pub coded_format: u32,
-    pub drain: Option<Drain>,
+    /// The ticket of an owed drain.
+    pub drain: Option<u32>,
     pub input: Queue,
     pub output: Queue,
     /// What a slip remembers of a stream, in no table. The device itself has no use for it.
     pub kept: bool,
-}
-
-/// An owed drain. The mark is a part of it, since "with no drain owed it is off".
-#[derive(Clone, Copy, Debug, PartialEq, Eq)]
-pub struct Drain {
-    pub ticket: u32,
-    /// "Whether EOS was given since its drain was accepted."
-    pub eos_given: bool,
 }
 
 /// "... its parameters and its resources".
@@ -255,11 +248,8 @@ impl Device {
         if let Some(place) = self.asked_place(kind, number, right_length)? {
             let draining = self.is_draining(number);
             self.serve_live(place, kind, ticket, frame, answers)?;
-            if let Some(stream) = self.places[place].as_mut() {
-                stream.change_mark(self.slip, kind, word(frame, 8));
-            }
-            if draining != self.is_draining(number) {
-                self.drop_marks(kind);
+            if draining && !self.is_draining(number) {
+                self.drain_ended(kind);
             }
         }
         Ok(())
@@ -444,16 +434,17 @@ impl Device {
         }
     }
 
-    /// A finish report: "flags above 3 (6), then 5, then the EOS rule (6)".
+    /// A finish report: "flags above 3 (6), then 5, then the EOS rule (6)", and "with an input still
+    /// Queued" EOS "is refused with 5, after the tests a finish already has".
     pub fn finish(&mut self, report: &Report, room: usize) -> Done {
         let slip = self.slip;
         let taken = self.slips_late(Slip::LateReportTaken(FINISH), report.stream);
         let late_first = self.slips_late(Slip::LateBeforeFlags, report.stream);
         let fits = |stream: &Stream| stream.has_queued(report.queue_type, report.resource);
         let number = self.reported(FINISH, report.stream, fits);
-        let given = self.eos_given_before(number, report.flags);
+        let early = self.waits_for_inputs(number, report);
+        let draining = self.awaits_eos(number);
         let mut stream = self.live(number);
-        let draining = stream.as_ref().is_some_and(|stream| stream.drain.is_some());
         let queued = stream.as_mut().is_some_and(|stream| stream.buffer(slip, report).is_some());
         let input = report.queue_type == INPUT;
         let eos = report.has_eos();
@@ -463,11 +454,11 @@ impl Device {
             (!queued && !taken, 5, "no buffer now Queued"),
             (eos && input, 6, "EOS on an input"),
             (eos && !draining, 6, "EOS with no drain owed"),
-            (eos && given, 6, "a second EOS"),
+            (early, 5, "EOS with an input still Queued"),
         ];
         if let Err(hit) = first_hit(slip, FINISH, &tests) {
-            if let Some(stream) = stream {
-                stream.mark_though_refused(slip, report, hit);
+            if let Some(stream) = stream.filter(|_| eos) {
+                stream.eos_though_refused(slip, report, hit);
             }
             return Done::refused(hit.number, hit.why);
         }
@@ -475,31 +466,28 @@ impl Device {
         if let Some(stream) = stream {
             stream.finish(slip, report, &mut answers);
         }
-        if slip == Some(Slip::EosGivenToAll) && eos {
-            self.places.iter_mut().flatten().for_each(|stream| stream.give_eos(true));
+        if eos {
+            self.drain_ended(FINISH);
         }
         Done::taken(answers.bytes)
     }
 
     /// A drained report: refused with 5 for "no such stream, no drain owed, or an input still
-    /// Queued", and "unless [EOS] was [given], or the stream has no output resources at all".
+    /// Queued", and it "stays only for streams without output resources, and answers 5 otherwise".
     pub fn drained(&mut self, number: u32, room: usize) -> Done {
         let slip = self.slip;
         let taken = self.slips_late(Slip::LateReportTaken(DRAINED), number);
         let number = self.reported(DRAINED, number, Stream::can_be_drained);
-        let lacks_eos = self.lacks_eos(number);
+        let outputs = self.has_outputs(number);
+        let owed = self.is_draining(number);
+        let input_queued = self.drained_waits_for_inputs(number);
         let stream = self.live(number);
-        let seen = stream.as_ref().and_then(|stream| stream.seen_drain(slip, DRAINED));
-        let input_queued = stream.as_ref().is_some_and(|stream| {
-            stream.input.any_queued()
-                || slip == Some(Slip::DrainedWaitsForOutputs) && stream.output.any_queued()
-        });
         let tests = [
             (room < ROOM, 3, "answer buffer under 1,056 bytes"),
             (stream.is_none() && !taken, 5, "no such stream"),
-            (seen.is_none() && !taken, 5, "no drain owed"),
+            (!owed && !taken, 5, "no drain owed"),
             (input_queued, 5, "an input still Queued"),
-            (lacks_eos, 5, "EOS not given, and outputs there"),
+            (outputs, 5, "output resources there"),
         ];
         if let Err(hit) = first_hit(slip, DRAINED, &tests) {
             if let Some(stream) = stream {
@@ -509,21 +497,20 @@ impl Device {
         }
         let mut answers = Answers::new(slip, DRAINED);
         if let Some(stream) = stream {
-            let pending = stream.drain;
+            let owed = stream.drain;
             stream.stop_drain(&mut answers);
             if slip == Some(Slip::DrainedKeepsDrain) {
-                stream.drain = pending;
+                stream.drain = owed;
             }
         }
-        self.drop_marks(DRAINED);
+        self.drain_ended(DRAINED);
         Done::taken(answers.bytes)
     }
 
-    /// A step of this kind has answered a drain or begun one: only a slip drops the marks of all
-    /// streams.
-    fn drop_marks(&mut self, kind: u32) {
-        if self.slip == Some(Slip::AnswerDropsAllMarks(kind)) {
-            self.places.iter_mut().flatten().for_each(|stream| stream.give_eos(false));
+    /// A step of this kind has ended a drain: only a slip ends those of all streams.
+    fn drain_ended(&mut self, kind: u32) {
+        if self.slip == Some(Slip::EndsAllDrains(kind)) {
+            self.places.iter_mut().flatten().for_each(|stream| stream.drain = None);
         }
     }
 
@@ -532,25 +519,53 @@ impl Device {
         self.stream(number).is_some_and(|stream| stream.drain.is_some())
     }
 
-    /// Whether EOS was given before to the drain that a finish with these flags is for.
-    fn eos_given_before(&self, number: u32, flags: u32) -> bool {
+    /// Whether a finish with EOS finds a drain owed.
+    fn awaits_eos(&self, number: u32) -> bool {
         match self.slip {
-            Some(Slip::EosOfAnyStream(FINISH)) => self.streams().any(Stream::eos_given),
-            Some(Slip::SecondWithErrTaken) if flags == ERR + EOS => false,
-            _ => self.stream(number).is_some_and(Stream::eos_given),
+            Some(Slip::EosByAnyDrain) => self.streams().any(|stream| stream.drain.is_some()),
+            _ => self.is_draining(number),
         }
     }
 
-    /// Whether a drained report comes before the last picture of its stream.
-    fn lacks_eos(&self, number: u32) -> bool {
-        let lacks = self.stream(number).is_some_and(|stream| stream.lacks_eos(self.slip));
+    /// Whether a finish carries EOS and comes before the last input of its stream.
+    fn waits_for_inputs(&self, number: u32, report: &Report) -> bool {
+        let Some(stream) = self.stream(number) else { return false };
+        let queued = stream.input_queued(self.slip, FINISH);
+        if !report.has_eos() {
+            let waits = self.slip == Some(Slip::OutputsWaitForInputs);
+            return waits && queued && report.queue_type == OUTPUT;
+        }
+        // The finish's own buffer is one of those Queued.
+        let others = stream.output.queued() > 1;
         match self.slip {
-            Some(Slip::EosOfAnyStream(DRAINED)) => lacks && !self.streams().any(Stream::eos_given),
-            Some(Slip::OutputsOfAnyStream) => {
-                let given = self.stream(number).is_some_and(Stream::eos_given);
-                !given && self.streams().any(|stream| stream.output.has_any())
-            }
-            _ => lacks,
+            Some(Slip::EarlyEosLeavesDrain) => false,
+            Some(Slip::EarlyEosTakenWith(taken)) => queued && report.flags != taken,
+            Some(Slip::EosWaitsForOutputs) => others,
+            Some(Slip::EosWaitsForBoth) => queued || others,
+            Some(Slip::EosWaitsForIdleInputs) => stream.input.has_any(),
+            Some(Slip::EosWaitsForAnyStream) => self.any_input_queued(),
+            _ => queued,
+        }
+    }
+
+    /// Whether a drained report comes before the last input of its stream.
+    fn drained_waits_for_inputs(&self, number: u32) -> bool {
+        match self.slip {
+            Some(Slip::DrainedWaitsForAnyStream) => self.any_input_queued(),
+            slip => self.stream(number).is_some_and(|stream| stream.input_queued(slip, DRAINED)),
+        }
+    }
+
+    /// Whether an input of any stream is Queued.
+    fn any_input_queued(&self) -> bool {
+        self.streams().any(|stream| stream.input.any_queued())
+    }
+
+    /// Whether the stream that a drained report is for has output resources.
+    fn has_outputs(&self, number: u32) -> bool {
+        match self.slip {
+            Some(Slip::OutputsOfAnyStream) => self.streams().any(|stream| stream.output.has_any()),
+            slip => self.stream(number).is_some_and(|stream| stream.has_outputs(slip)),
         }
     }
 
@@ -677,80 +692,58 @@ impl Stream {
 
     /// Whether a drained report would be taken.
     pub fn can_be_drained(&self) -> bool {
-        self.drain.is_some() && !self.input.any_queued() && !self.lacks_eos(None)
+        self.drain.is_some() && !self.input.any_queued() && !self.output.has_any()
     }
 
-    /// Whether EOS was given to the owed drain.
-    pub fn eos_given(&self) -> bool {
-        self.drain.is_some_and(|drain| drain.eos_given)
-    }
-
-    /// Whether the last picture is still to come: EOS was not given, and there are outputs, in any
-    /// state, that it could be given on.
-    fn lacks_eos(&self, slip: Option<Slip>) -> bool {
-        let given = self.eos_given();
-        let outputs = self.output.has_any();
+    /// Whether an input is still Queued, as this kind of report sees it.
+    fn input_queued(&self, slip: Option<Slip>, kind: u32) -> bool {
         match slip {
-            Some(Slip::DrainedNeedsEos) => !given,
-            Some(Slip::DrainedNeedsNoOutputs) => outputs,
-            Some(Slip::DrainedAfterEosNeedsOutputs) => given != outputs,
-            Some(Slip::DrainedLooksAtInputs) => !given && self.input.has_any(),
-            Some(Slip::DrainedLooksAtBoth) => !given && (outputs || self.input.has_any()),
+            Some(Slip::QueuedInputsSeenBelow(of, slots)) if of == kind => {
+                self.input.resources[..slots].iter().flatten().any(Resource::is_queued)
+            }
+            _ => self.input.any_queued(),
+        }
+    }
+
+    /// Whether there are output resources, in any state, as a drained report sees it.
+    fn has_outputs(&self, slip: Option<Slip>) -> bool {
+        let (inputs, outputs) = (self.input.has_any(), self.output.has_any());
+        match slip {
+            Some(Slip::DrainedRefused) => true,
+            Some(Slip::DrainedLooksAtInputs) => inputs,
+            Some(Slip::DrainedLooksAtBoth) => inputs || outputs,
             Some(Slip::OutputsOverlooked(state)) => {
                 let mut others = self.output.resources.iter().flatten();
-                !given && others.any(|output| output.state.name() != state)
+                others.any(|output| output.state.name() != state)
             }
-            Some(Slip::OnlyQueuedOutputsCount) => !given && self.output.any_queued(),
+            Some(Slip::OnlyQueuedOutputsCount) => self.output.any_queued(),
             Some(Slip::OutputsSeenBelow(slots)) => {
-                !given && self.output.resources[..slots].iter().any(Option::is_some)
+                self.output.resources[..slots].iter().any(Option::is_some)
             }
-            Some(Slip::OutputsAskedAtDrain) => !given && self.kept,
-            _ => !given && outputs,
+            Some(Slip::OutputsAskedAtDrain) => self.kept,
+            _ => outputs,
         }
     }
 
-    /// The owed drain as this kind of step sees it.
-    fn seen_drain(&self, slip: Option<Slip>, kind: u32) -> Option<Drain> {
-        let hidden = slip == Some(Slip::MarkedIsNoDrain(kind));
-        self.drain.filter(|drain| !hidden || !drain.eos_given)
-    }
-
-    /// Sets or drops the mark of the owed drain.
-    fn give_eos(&mut self, given: bool) {
-        if let Some(drain) = &mut self.drain {
-            drain.eos_given = given;
-        }
-    }
-
-    /// A step of this kind was taken, for this queue if it names one: only a slip changes the mark.
-    fn change_mark(&mut self, slip: Option<Slip>, kind: u32, queue_type: u32) {
-        if slip == Some(Slip::MarkLostBy(kind, queue_type)) {
-            self.give_eos(false);
-        }
-        if slip == Some(Slip::MarkGivenBy(kind, queue_type)) {
-            self.give_eos(true);
-        }
-    }
-
-    /// A finish was refused: only a slip changes the mark.
-    fn mark_though_refused(&mut self, slip: Option<Slip>, report: &Report, hit: Hit) {
+    /// A finish with EOS was refused: only a slip does something about it.
+    fn eos_though_refused(&mut self, slip: Option<Slip>, report: &Report, hit: Hit) {
+        let early = hit.why == "EOS with an input still Queued";
         match slip {
-            Some(Slip::RefusedEosGiven(why)) if why == hit.why && report.has_eos() => {
-                self.give_eos(true);
-                self.kept = self.drain.is_none();
+            Some(Slip::RefusedEosEnds(why)) if why == hit.why => self.drain = None,
+            Some(Slip::EarlyEosDequeues) if early => {
+                if let Some(buffer) = self.buffer(slip, report) {
+                    buffer.state = State::Dequeued;
+                }
             }
-            Some(Slip::SecondDropsMark) if hit.why == "a second EOS" => self.give_eos(false),
+            Some(Slip::EarlyEosRemembered) if early => self.kept = true,
             _ => {}
         }
     }
 
     /// A drained report was refused: only a slip changes the drain.
     fn drained_though_refused(&mut self, slip: Option<Slip>, hit: Hit) {
-        match slip {
-            Some(Slip::RefusedDrainedGives(why)) if why == hit.why => self.give_eos(true),
-            Some(Slip::RefusedDrainedLoses(why)) if why == hit.why => self.give_eos(false),
-            Some(Slip::RefusedDrainedEnds(why)) if why == hit.why => self.drain = None,
-            _ => {}
+        if slip == Some(Slip::RefusedDrainedEnds(hit.why)) {
+            self.drain = None;
         }
     }
 
@@ -769,46 +762,88 @@ impl Stream {
         named.filter(|resource| resource.is_queued())
     }
 
-    /// Answers the buffer of a finish report, which is then Dequeued.
+    /// Answers "the buffer and then the drain", this one if the finish carries EOS.
     fn finish(&mut self, slip: Option<Slip>, report: &Report, answers: &mut Answers) {
-        let input = report.queue_type == INPUT;
-        if let Some(buffer) = self.buffer(slip, report) {
-            if let State::Queued { ticket, timestamp: own } = buffer.state {
-                // "An input's timestamp is its own, an output's the report's."
-                let timestamp = match slip {
-                    Some(Slip::InputTimestampOfReport) => report.timestamp,
-                    Some(Slip::OutputTimestampOwn) => own,
-                    _ if input => own,
-                    _ => report.timestamp,
-                };
-                answers.buffer(ticket, report.stream, report.queue_type, timestamp, report.flags);
-            }
-            let created = slip == Some(Slip::FinishedIsCreated);
-            buffer.state = if created { State::Created } else { State::Dequeued };
+        if slip == Some(Slip::DrainBeforeLastOutput) && report.has_eos() {
+            self.stop_drain(answers);
         }
-        self.change_mark(slip, FINISH, report.queue_type);
-        if self.finish_gives_eos(slip, report) {
-            self.give_eos(true);
-        }
-        match slip {
-            Some(Slip::LastInputEndsDrain) if input && !self.input.any_queued() => {
-                self.stop_drain(answers)
-            }
-            Some(Slip::EosEndsDrain) if report.has_eos() => self.stop_drain(answers),
-            Some(Slip::EosForgetsDrain) if report.has_eos() => self.drain = None,
-            _ => {}
+        self.finish_buffer(slip, report, answers);
+        if self.finish_ends_drain(slip, report) {
+            self.end_by_finish(slip, report, answers);
         }
     }
 
-    /// Whether a finish that is taken gives EOS, with or without ERR.
-    fn finish_gives_eos(&self, slip: Option<Slip>, report: &Report) -> bool {
-        let of = (report.queue_type, report.flags);
+    /// Answers the buffer of a finish report, which is then Dequeued.
+    fn finish_buffer(&mut self, slip: Option<Slip>, report: &Report, answers: &mut Answers) {
+        let slips_last = |other| slip == Some(other) && report.has_eos();
+        let drain = self.drain;
+        let Some(buffer) = self.buffer(slip, report) else { return };
+        if let State::Queued { ticket, timestamp: own } = buffer.state {
+            // "An input's timestamp is its own, an output's the report's."
+            let timestamp = match slip {
+                Some(Slip::InputTimestampOfReport) => report.timestamp,
+                Some(Slip::OutputTimestampOwn) => own,
+                _ if report.queue_type == INPUT => own,
+                _ => report.timestamp,
+            };
+            let drains = slips_last(Slip::LastOutputOfDrainTicket);
+            let ticket = drain.filter(|_| drains).unwrap_or(ticket);
+            let hidden = if slips_last(Slip::LastOutputWithoutEos) { EOS } else { 0 };
+            let flags = report.flags & !hidden;
+            answers.buffer(ticket, report.stream, report.queue_type, timestamp, flags);
+        }
         match slip {
-            Some(Slip::EosGivenBy(queue_type, flags)) if of == (queue_type, flags) => true,
-            Some(Slip::EosNotGivenBy(flags)) if report.flags == flags => false,
-            Some(Slip::LastOutputGivesEos) if of.0 == OUTPUT && !self.output.any_queued() => true,
+            Some(Slip::FinishedIsCreated) => buffer.state = State::Created,
+            Some(Slip::LastOutputStaysQueued) if report.has_eos() => {}
+            _ => buffer.state = State::Dequeued,
+        }
+    }
+
+    /// Whether a finish that is taken ends the drain: it does with EOS, with or without ERR.
+    fn finish_ends_drain(&self, slip: Option<Slip>, report: &Report) -> bool {
+        let of = (report.queue_type, report.flags);
+        let inputs_done = !self.input.any_queued();
+        match slip {
+            Some(Slip::EndedBy(queue_type, flags)) if of == (queue_type, flags) => inputs_done,
+            Some(Slip::EosLeavesDrain) => false,
+            Some(Slip::NotEndedBy(flags)) if report.flags == flags => false,
+            Some(Slip::LastInputEndsDrain) if of.0 == INPUT => inputs_done,
+            Some(Slip::LastOutputEndsDrain) if of.0 == OUTPUT => {
+                report.has_eos() || inputs_done && !self.output.any_queued()
+            }
+            Some(Slip::EarlyEosLeavesDrain) => report.has_eos() && inputs_done,
+            Some(Slip::EarlyEosRemembered) if of.0 == INPUT => self.kept && inputs_done,
             _ => report.has_eos(),
         }
+    }
+
+    /// Answers the drain that a finish ends.
+    fn end_by_finish(&mut self, slip: Option<Slip>, report: &Report, answers: &mut Answers) {
+        let (Some(ticket), number) = (self.drain, self.number) else { return };
+        let plain = [OK_NODATA, number];
+        match slip {
+            Some(Slip::EosForgetsDrain) => {}
+            Some(Slip::LastDrainOfResource) => answers.put(ticket, &[OK_NODATA, report.resource]),
+            Some(Slip::LastDrainOfBufferTicket) => {
+                // The buffer is answered first.
+                answers.put(word(&answers.bytes, 0), &plain)
+            }
+            Some(Slip::LastDrainWithFlags) => {
+                answers.put(ticket, &[plain, [report.flags, 0]].concat())
+            }
+            Some(Slip::LastDrainWithoutStream) => answers.put(ticket, &plain[..1]),
+            _ => answers.drain(ticket, number),
+        }
+        match slip {
+            Some(Slip::EosKeepsDrain) => return,
+            Some(Slip::EosFreesInputs) => self.input.resources = [None; SLOTS],
+            Some(Slip::EosStopsOutputs) => self.output.stop(slip, number, answers),
+            Some(Slip::EosDequeuesOutputs) => {
+                self.output.stop(slip, number, &mut Answers::new(slip, FINISH))
+            }
+            _ => {}
+        }
+        self.drain = None;
     }
 
     /// 0x0102: "answers every Queued input, then output, then an owed drain".
@@ -824,30 +859,21 @@ impl Stream {
         self.stop_drain(answers);
     }
 
-    /// Answers an owed drain, which is then owed no more: "a drain's answer drops the mark".
+    /// Answers an owed drain, which is then owed no more.
     fn stop_drain(&mut self, answers: &mut Answers) {
-        let (slip, kind) = (answers.slip, answers.kind);
-        let Some(Drain { ticket, eos_given }) = self.seen_drain(slip, kind) else { return };
-        self.drain = None;
-        self.kept = eos_given && slip == Some(Slip::MarkOutlives(kind));
-        answers.drain(ticket, self.number);
+        if let Some(ticket) = self.drain.take() {
+            answers.drain(ticket, self.number);
+        }
     }
 
-    /// 0x0103: "already draining (0x0300); else owed, answered by a drained report".
+    /// 0x0103: "already draining (0x0300); else owed".
     fn drain(&mut self, slip: Option<Slip>, ticket: u32) -> Result<(), Hit> {
-        let draining = self.seen_drain(slip, STREAM_DRAIN).is_some();
-        match (slip, &mut self.drain) {
-            (Some(Slip::RefusedDrainKeepsTicket), Some(drain)) => drain.ticket = ticket,
-            (Some(Slip::RefusedDrainLosesMark), Some(drain)) => drain.eos_given = false,
-            _ => {}
+        let draining = self.drain.is_some();
+        if slip == Some(Slip::RefusedDrainKeepsTicket) && draining {
+            self.drain = Some(ticket);
         }
         first_hit(slip, STREAM_DRAIN, &[(draining, INVALID_OPERATION, "already draining")])?;
-        let eos_given = match slip {
-            Some(Slip::NewDrainMarked) => true,
-            Some(Slip::MarkOutlives(_) | Slip::RefusedEosGiven(_)) => self.kept,
-            _ => false,
-        };
-        self.drain = Some(Drain { ticket, eos_given });
+        self.drain = Some(ticket);
         self.kept = slip == Some(Slip::OutputsAskedAtDrain) && self.output.has_any();
         Ok(())
     }
@@ -894,7 +920,7 @@ impl Stream {
     /// 0x0105: "Accepted: no answer now; the ticket and timestamp are kept."
     fn resource_queue(&mut self, slip: Option<Slip>, ticket: u32, frame: &[u8]) -> Result<(), Hit> {
         let slips = |other| slip == Some(other);
-        let draining = self.seen_drain(slip, RESOURCE_QUEUE).is_some();
+        let draining = self.drain.is_some();
         let input = word(frame, 8) == INPUT;
         let queue = self.named(word(frame, 8));
         let mut timestamp = long(frame, 16);
@@ -1226,7 +1252,7 @@ impl Answers {
         self.plain(Slip::SuccessOfBufferType(self.kind), ticket, stream);
     }
 
-    /// "A drain's answer is the plain 8 bytes even when stopped."
+    /// "A drain's answer is the plain 8 bytes even when stopped", and also behind a buffer's.
     fn drain(&mut self, ticket: u32, stream: u32) {
         self.plain(Slip::DrainOfBufferType(self.kind), ticket, stream);
     }
@@ -1244,6 +1270,7 @@ impl Answers {
             Some(Slip::InputOfPlainType) => queue_type == INPUT,
             Some(Slip::OutputOfPlainType) => queue_type == OUTPUT,
             Some(Slip::ErrOfPlainType) => flags & ERR != 0,
+            Some(Slip::EosOfPlainType) => flags & EOS != 0,
             _ => false,
         };
         let code = if plain { OK_NODATA } else { OK_RESOURCE_QUEUE };
@@ -1374,9 +1401,10 @@ fn first_hit_with_slip(
                 tests[at..].rotate_left(1);
             }
         }
-        Some(Slip::Behind(of, why, other)) => {
+        Some(Slip::Beyond(of, why, other)) => {
             if let (Some(from), Some(to)) = (at(of, why), at(of, other)) {
-                tests[from..=to].rotate_left(1);
+                let test = tests.remove(from);
+                tests.insert(to, test);
             }
         }
         Some(Slip::Gives(of, why, number)) => {

@@ -29,7 +29,7 @@ pub enum Broken {
     Live,
     /// A vacant place is not all zero.
     Vacant,
-    /// The drain's word is none of 0 (none owed), 1 (owed) and 2 (owed, and EOS given).
+    /// The drain's word is neither 0 nor 1.
     Drain,
     /// A drain's ticket stands while none is owed.
     DrainTicket,
@@ -187,23 +187,17 @@ fn read_place(block: &[u32], slip: Option<Slip>) -> Result<Option<Stream>, Broke
     }))
 }
 
-/// The drain of a block's two words: "0 none pending; 1 pending; 2 pending, and EOS was given since
-/// it was accepted", and the ticket.
-fn read_drain(word: u32, ticket: u32, slip: Option<Slip>) -> Result<Option<Drain>, Broken> {
-    let good = match slip {
-        Some(Slip::DrainWordTaken(taken)) => word <= 2 || word == taken,
-        Some(Slip::HighDrainWordTaken) => word <= 2 || word >= 1 << 31,
-        Some(Slip::MarkedRefused) => word <= 1,
-        _ => word <= 2,
+/// The drain of a block's two words: whether it is pending, 0 or 1, and its ticket, "0 while none is
+/// pending".
+fn read_drain(word: u32, ticket: u32, slip: Option<Slip>) -> Result<Option<u32>, Broken> {
+    let passed = match slip {
+        Some(Slip::DrainWordTaken(taken)) => word == taken,
+        Some(Slip::HighDrainWordTaken) => word >= 1 << 31,
+        _ => false,
     };
-    ask(good, Broken::Drain, slip)?;
-    let any_ticket = match slip {
-        Some(Slip::MarkedTicketRefused) => word == 1,
-        _ => word != 0,
-    };
-    ask(any_ticket || ticket == 0, Broken::DrainTicket, slip)?;
-    let eos_given = word >= 2 && slip != Some(Slip::MarkReadAs1);
-    Ok((word != 0).then_some(Drain { ticket, eos_given }))
+    ask(word <= 1 || passed, Broken::Drain, slip)?;
+    ask(word != 0 || ticket == 0, Broken::DrainTicket, slip)?;
+    Ok((word != 0).then_some(ticket))
 }
 
 fn read_queue(
@@ -263,7 +257,7 @@ pub fn write(device: &Device, words: &mut [u32]) {
     for (place, block) in device.places.iter().zip(words.chunks_exact_mut(BLOCK)) {
         match place {
             None => block.fill(0),
-            Some(stream) => write_place(stream, block, device.slip),
+            Some(stream) => write_place(stream, block),
         }
     }
     write_spent(device, words);
@@ -282,25 +276,16 @@ pub fn write_spent(device: &Device, words: &mut [u32]) {
     }
 }
 
-fn write_place(stream: &Stream, block: &mut [u32], slip: Option<Slip>) {
+fn write_place(stream: &Stream, block: &mut [u32]) {
     block[0] = 1;
     block[1] = stream.number;
     block[2] = stream.coded_format;
-    block[DRAIN_AT..DRAIN_AT + 2].copy_from_slice(&drain_words(stream.drain, slip));
+    let drain = stream.drain.map_or([0, 0], |ticket| [1, ticket]);
+    block[DRAIN_AT..DRAIN_AT + 2].copy_from_slice(&drain);
     block[5..INPUT_AT].fill(0);
     write_queue(&stream.input, &mut block[INPUT_AT..OUTPUT_AT]);
     write_queue(&stream.output, &mut block[OUTPUT_AT..TAIL_AT]);
     block[TAIL_AT..].fill(0);
-}
-
-fn drain_words(drain: Option<Drain>, slip: Option<Slip>) -> [u32; 2] {
-    match (drain, slip) {
-        (None, _) => [0, 0],
-        (Some(Drain { ticket, eos_given: false }), _) => [1, ticket],
-        (Some(Drain { ticket, .. }), Some(Slip::MarkWrittenAs(word))) => [word, ticket],
-        (Some(_), Some(Slip::MarkWithoutTicket)) => [2, 0],
-        (Some(Drain { ticket, .. }), _) => [2, ticket],
-    }
 }
 
 fn write_queue(queue: &Queue, words: &mut [u32]) {

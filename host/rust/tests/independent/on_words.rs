@@ -2,7 +2,9 @@
 //! included.
 
 use super::device::*;
-use super::layout::{self, BLOCK, DRAIN_AT, INPUT_AT, OUTPUT_AT, SPENT_AT, UNUSED_AT, WORDS};
+use super::layout::{
+    self, BLOCK, DRAIN_AT, INPUT_AT, OUTPUT_AT, SLOT, SLOTS_AT, SPENT_AT, TAIL_AT, UNUSED_AT, WORDS,
+};
 use super::slips::Slip;
 
 /// What a step gives back: a refusal number or 0, with the number of bytes written.
@@ -58,9 +60,6 @@ impl Core for OnWords {
             (Some(Slip::ClearSetsQueueHead), QUEUE_CLEAR, 16) => {
                 clear_and_mark(table, ticket, frame, answers)
             }
-            (Some(Slip::DestroyLeavesMark), STREAM_DESTROY, 8) => {
-                destroy_but_the_mark(table, ticket, frame, answers)
-            }
             _ => on_words(self.0, COMMAND, table, answers, |device, room| {
                 device.command(ticket, frame, room)
             }),
@@ -108,35 +107,15 @@ fn clear_and_mark(table: &mut [u32], ticket: u32, frame: &[u8], answers: &mut [u
     outcome
 }
 
-/// A destruction under `DestroyLeavesMark`.
-fn destroy_but_the_mark(
-    table: &mut [u32],
-    ticket: u32,
-    frame: &[u8],
-    answers: &mut [u8],
-) -> Outcome {
-    let marked = block_named(table, frame).filter(|block| table[block + DRAIN_AT] == 2);
-    let outcome = OnWords(None).command(table, ticket, frame, answers);
-    if let (0, Some(block)) = (outcome.refusal, marked) {
-        table[block + DRAIN_AT] = 2;
-    }
-    outcome
-}
-
 /// Where word 0 of the queue stands that a frame names, if it does.
 fn head_named(table: &[u32], frame: &[u8]) -> Option<usize> {
     let in_block = match QueueType::of(word(frame, 8))? {
         QueueType::Input => INPUT_AT,
         QueueType::Output => OUTPUT_AT,
     };
-    Some(block_named(table, frame)? + in_block)
-}
-
-/// Where the block of the live stream starts that a frame names, if it does.
-fn block_named(table: &[u32], frame: &[u8]) -> Option<usize> {
     let mut blocks = table.chunks_exact(BLOCK).take(PLACES);
     let place = blocks.position(|block| block[0] == 1 && block[1] == word(frame, 4))?;
-    Some(place * BLOCK)
+    Some(place * BLOCK + in_block)
 }
 
 /// The words that a table has to have.
@@ -173,7 +152,7 @@ fn on_words(
     if room.len() < ROOM && !slip.is_some_and(|slip| slip.leaves_room_to_device(kind)) {
         match slip {
             Some(Slip::ShortRoomSpends) => spend_all_the_same(table, step),
-            Some(Slip::ShortRoomGivesEos) => mark_all_the_same(table, step),
+            Some(Slip::ShortRoomEndsDrain) => drain_all_the_same(table, step),
             _ => {}
         }
         return refuse(3);
@@ -211,7 +190,7 @@ fn on_enough(
         let live: Vec<u32> = device.streams().map(|stream| stream.number).collect();
         device.spent.keep(|number| live.contains(&number));
     }
-    layout::write(&device, words);
+    write_back(slip, kind, &device, words);
     // Only a slip gets here with a room that is too short.
     let count = done.written.len().min(room.len());
     room[..count].copy_from_slice(&done.written[..count]);
@@ -229,13 +208,51 @@ fn spend_all_the_same(table: &mut [u32], step: impl FnOnce(&mut Device, usize) -
     }
 }
 
-/// Under `ShortRoomGivesEos`: of what the step would do with room enough, the marks stay.
-fn mark_all_the_same(table: &mut [u32], step: impl FnOnce(&mut Device, usize) -> Done) {
-    let Ok(mut device) = layout::read(&table[..WORDS], None) else { return };
+/// Under `ShortRoomEndsDrain`: of what the step would do with room enough, the ends of drains stay.
+fn drain_all_the_same(table: &mut [u32], step: impl FnOnce(&mut Device, usize) -> Done) {
+    let words = &mut table[..WORDS];
+    let Ok(mut device) = layout::read(words, None) else { return };
     step(&mut device, ROOM);
-    for (place, block) in device.places.iter().zip(table.chunks_exact_mut(BLOCK)) {
-        if place.as_ref().is_some_and(Stream::eos_given) {
-            block[DRAIN_AT] = 2;
+    let mut after = words.to_vec();
+    layout::write(&device, &mut after);
+    for block in blocks_drained(words, &after) {
+        words[block + DRAIN_AT..][..2].fill(0);
+    }
+}
+
+/// Where the blocks start whose drains are owed before a step and not after it.
+fn blocks_drained(before: &[u32], after: &[u32]) -> Vec<usize> {
+    let drained = |block: &usize| before[block + DRAIN_AT] == 1 && after[block + DRAIN_AT] == 0;
+    (0..SPENT_AT).step_by(BLOCK).filter(drained).collect()
+}
+
+/// Writes the records back after a step of this kind. Only for a slip that leaves a word is the table
+/// copied first, so that the benchmark does not measure that.
+fn write_back(slip: Option<Slip>, kind: u32, device: &Device, words: &mut [u32]) {
+    match slip {
+        Some(slip @ (Slip::DrainWordLeft(..) | Slip::LastOutputWordLeft(_))) => {
+            write_but_for_a_word(slip, kind, device, words)
+        }
+        _ => layout::write(device, words),
+    }
+}
+
+/// Writes the records back but for the word that the slip leaves where a drain was ended.
+fn write_but_for_a_word(slip: Slip, kind: u32, device: &Device, words: &mut [u32]) {
+    let before = words.to_vec();
+    layout::write(device, words);
+    for block in blocks_drained(&before, words) {
+        match slip {
+            Slip::DrainWordLeft(of, at) if of == kind => {
+                words[block + at] = before[block + at];
+            }
+            Slip::LastOutputWordLeft(at) if kind == FINISH => {
+                let mut slots = (block + OUTPUT_AT + SLOTS_AT..block + TAIL_AT).step_by(SLOT);
+                if let Some(slot) = slots.find(|&slot| words[slot] != before[slot]) {
+                    words[slot + at] = before[slot + at];
+                }
+            }
+            _ => {}
         }
     }
 }

@@ -189,20 +189,19 @@ const HEAD_EDGES: [(usize, &str, &str); 2] = [
 ];
 
 /// The drain's word and its ticket with the names of their edges, first those of a good word.
-const DRAIN_WORD_EDGES: [(u32, u32, &str); 13] = [
+const DRAIN_WORD_EDGES: [(u32, u32, &str); 12] = [
     (0, 0, "drain's word 0, its ticket 0"),
     (0, 1, "drain's word 0, its ticket not 0"),
     (1, 0, "drain's word 1, its ticket 0"),
     (1, u32::MAX, "drain's word 1, its ticket not 0"),
     (2, 0, "drain's word 2, its ticket 0"),
     (2, 9, "drain's word 2, its ticket not 0"),
-    (3, 0, "drain's word 3"),
-    (3, 9, "drain's word 3"),
-    (4, 0, "drain's word above 3"),
-    (0x0001_0002, 9, "drain's word above 3"),
-    (0x8000_0000, 0, "drain's word above 3"),
-    (0x8000_0002, 9, "drain's word above 3"),
-    (u32::MAX, 9, "drain's word above 3"),
+    (3, 0, "drain's word above 2"),
+    (3, 9, "drain's word above 2"),
+    (0x0001_0001, 9, "drain's word above 2"),
+    (0x8000_0000, 0, "drain's word above 2"),
+    (0x8000_0001, 9, "drain's word above 2"),
+    (u32::MAX, 9, "drain's word above 2"),
 ];
 
 /// Bytes that are UTF-8 by RFC 3629: the first and last character of each length and beside the
@@ -1078,6 +1077,10 @@ impl Generator {
             3 => add(&mut self.rng, frames::on_queue(QUEUE_CLEAR, number, OUTPUT)),
             4 => {
                 self.rng.shuffle(&mut ends);
+                // With the inputs first, EOS comes while many outputs are Queued.
+                if self.rng.percent(50) {
+                    ends.sort_by_key(|&(queue_type, _)| queue_type);
+                }
                 for (queue_type, resource) in ends {
                     let flags = if queue_type == OUTPUT { self.rng.below(4) as u32 } else { 0 };
                     let timestamp = self.timestamp();
@@ -1144,14 +1147,16 @@ impl Generator {
         let report = |stream, flags| {
             Act::Finish(Report { stream, queue_type, resource, flags, timestamp: 6 })
         };
-        // Once its own buffer is finished, the new stream can be drained.
-        let last = if queue_type == OUTPUT { EOS } else { 0 };
-        let late = report(old, self.rng.below(2) as u32);
-        self.plan.splice(0..0, [Act::Drained { stream: old }, report(new, last), late]);
+        let late = report(old, self.rng.below(4) as u32);
+        // Once its own buffer is finished and gone, the new stream can be drained.
+        let free = self.told(frames::on_queue(RESOURCE_DESTROY_ALL, new, queue_type));
+        let drained = Act::Drained { stream: old };
+        self.plan.splice(0..0, [drained, free, report(new, 0), late]);
     }
 
-    /// A stream loses its resources and gets a few others, in any state, and is drained twice. Amid its
-    /// drains come EOS, late and once too often, drained reports, and all else that may touch them.
+    /// A stream loses its resources and gets a few others, in any state, and is drained twice. Before
+    /// and amid its drains come EOS, too early and once too often, drained reports, and all else that
+    /// may touch them.
     fn plan_drain(&mut self, device: &Device) {
         let live = self.live(device).map(|stream| stream.number);
         let number = live.unwrap_or_else(|| self.unspent(device));
@@ -1164,26 +1169,53 @@ impl Generator {
                 acts.push(self.told(frames::on_queue(kind, number, queue_type)));
             }
         }
+        if self.rng.percent(10) {
+            acts.extend(self.input_in_last_slot(number));
+        }
         for queue_type in [INPUT, OUTPUT] {
             for resource in 0..self.rng.below(3) as u32 {
                 acts.extend(self.resource_in_any_state(number, queue_type, resource));
             }
         }
+        if self.rng.percent(20) {
+            acts.extend(self.queued_and_last(number));
+        }
         for _ in 0..2 {
-            acts.push(self.told(frames::frame(STREAM_DRAIN, number, 8)));
-            if self.rng.percent(60) {
-                acts.extend(self.queued_and_last(number));
-            }
-            for _ in 0..self.rng.below(8) {
-                acts.push(self.amid_drain(number));
-            }
-            if self.rng.percent(35) {
-                acts.extend(self.other_outputs(number));
-            }
-            acts.push(Act::Drained { stream: number });
+            acts.extend(self.drain_and_reports(number));
         }
         acts.reverse();
         self.plan = acts;
+    }
+
+    /// Fills the inputs of a stream that has none, and queues the last one.
+    fn input_in_last_slot(&mut self, stream: u32) -> Vec<Act> {
+        let numbers = 100..100 + SLOTS as u32;
+        let queue = frames::resource_queue(stream, INPUT, numbers.end - 1, self.timestamp(), 1);
+        let create = |number| frames::resource_create(stream, INPUT, number, &[1], &[(0, 1)]);
+        numbers.map(create).chain([queue]).map(|frame| self.told(frame)).collect()
+    }
+
+    /// A drain of a stream of few resources, and what may end it.
+    fn drain_and_reports(&mut self, stream: u32) -> Vec<Act> {
+        let mut acts = vec![self.told(frames::frame(STREAM_DRAIN, stream, 8))];
+        if self.rng.percent(50) {
+            acts.extend(self.queued_and_last(stream));
+        }
+        for _ in 0..self.rng.below(8) {
+            acts.push(self.amid_drain(stream));
+        }
+        if self.rng.percent(40) {
+            acts.extend([0, 1].map(|resource| {
+                let flags = self.rng.below(2) as u32;
+                Act::Finish(Report { stream, queue_type: INPUT, resource, flags, timestamp: 4 })
+            }));
+            acts.extend(self.queued_and_last(stream));
+        }
+        if self.rng.percent(35) {
+            acts.extend(self.other_outputs(stream));
+        }
+        acts.push(Act::Drained { stream });
+        acts
     }
 
     /// Queues an output and finishes it with EOS.
@@ -1269,7 +1301,7 @@ impl Generator {
                 device.spent.add(number);
                 let coded_format = self.coded_format();
                 let mut stream = Stream::new(number, coded_format);
-                stream.drain = self.lent_drain();
+                stream.drain = self.rng.percent(50).then(|| self.ticket());
                 for queue_type in [QueueType::Input, QueueType::Output] {
                     *stream.queue(queue_type) =
                         self.lent_queue(queue_type, coded_format, resources, queued);
@@ -1283,17 +1315,9 @@ impl Generator {
         device
     }
 
-    /// An owed drain, with the mark or without, or none.
-    fn lent_drain(&mut self) -> Option<Drain> {
-        if self.rng.percent(50) {
-            return None;
-        }
-        Some(Drain { ticket: self.ticket(), eos_given: self.rng.percent(50) })
-    }
-
-    /// Leaves a stream one output, in the last slot, and a drain that waits for nothing but EOS.
+    /// Leaves a stream one output, in the last slot, and a drain that waits for nothing else.
     fn output_in_last_slot(&mut self, stream: &mut Stream, queued: usize) {
-        stream.drain = Some(Drain { ticket: self.ticket(), eos_given: false });
+        stream.drain = Some(self.ticket());
         for input in stream.input.resources.iter_mut().flatten() {
             input.state = self.lent_state(0);
         }
@@ -1455,8 +1479,8 @@ impl Generator {
     /// Changes the drain of a live stream, if there is one: its word and its ticket.
     fn spoil_drain(&mut self, table: &mut [u32]) -> Option<&'static str> {
         let block = self.live_block(table)?;
-        let (good, bad) = DRAIN_WORD_EDGES.split_at(6);
-        let edges = if self.rng.percent(70) { good } else { bad };
+        let (good, bad) = DRAIN_WORD_EDGES.split_at(4);
+        let edges = if self.rng.percent(60) { good } else { bad };
         let (word, ticket, edge) = self.rng.pick(edges);
         table[block + DRAIN_AT] = word;
         table[block + DRAIN_AT + 1] = ticket;

@@ -3,7 +3,7 @@
 
 use super::coverage::{OWED, REASONS, SUCCESSES, UNKNOWN};
 use super::device::*;
-use super::layout::{Broken, SPENT_AT, UNUSED_AT, WORDS};
+use super::layout::{Broken, DRAIN_AT, SPENT_AT, UNUSED_AT, WORDS};
 
 /// One slip. A device has at most one.
 #[derive(Clone, Copy, Debug, PartialEq, Eq)]
@@ -15,15 +15,15 @@ pub enum Slip {
     First(u32, Why),
     /// The test is made after all others of its list.
     Last(u32, Why),
-    /// The test is made after this later one.
-    Behind(u32, Why, Why),
+    /// The test is made after this one if that is later, and before it if that is earlier.
+    Beyond(u32, Why, Why),
     /// The test gives this number.
     Gives(u32, Why, u32),
 
     // Of the types of answers, each by the kind of step that writes it.
     /// Buffers, finished or stopped, are answered with 0x0200.
     BufferOfPlainType(u32),
-    /// A drain, reported or stopped, is answered with 0x0202.
+    /// A drain, ended by a report or stopped, is answered with 0x0202.
     DrainOfBufferType(u32),
     /// Plain success is 0x0202.
     SuccessOfBufferType(u32),
@@ -93,20 +93,14 @@ pub enum Slip {
     OutputOfPlainType,
     /// Buffers with ERR are answered with 0x0200.
     ErrOfPlainType,
+    /// Buffers with EOS are answered with 0x0200.
+    EosOfPlainType,
     /// A buffer's answer has no size.
     BufferWithoutSize,
     /// Destroy all ends a drain.
     DestroyAllEndsDrain,
-    /// The last input's finish ends a drain.
-    LastInputEndsDrain,
-    /// An EOS ends a drain.
-    EosEndsDrain,
     /// An output is refused while draining.
     OutputRefusedWhileDraining,
-    /// A drained report waits for the outputs.
-    DrainedWaitsForOutputs,
-    /// A drained report stays owed.
-    DrainedKeepsDrain,
     /// A command's type is read as 16 bits.
     TypeIn16Bits,
     /// The padding of 0x0105 has to be zero.
@@ -118,16 +112,83 @@ pub enum Slip {
     /// The size of an output follows the defaults.
     DefaultPlaneSizes,
 
-    // Of drains and their last picture.
-    /// A drained report needs EOS also where there are no outputs.
-    DrainedNeedsEos,
-    /// A drained report is refused while there are outputs, EOS given or not.
-    DrainedNeedsNoOutputs,
-    /// After EOS, a drained report is refused where there are no outputs left.
-    DrainedAfterEosNeedsOutputs,
-    /// Without EOS, a drained report is refused while there are inputs, whatever the outputs.
+    // Of a finish that ends a drain.
+    /// The drain is answered before the buffer that carries EOS.
+    DrainBeforeLastOutput,
+    /// EOS leaves the drain, which it has answered, owed.
+    EosKeepsDrain,
+    /// EOS leaves the drain owed and unanswered.
+    EosLeavesDrain,
+    /// EOS drops the drain, unanswered.
+    EosForgetsDrain,
+    /// A finish with these flags, which carry EOS, does not end the drain.
+    NotEndedBy(u32),
+    /// A finish of this queue with these flags ends the drain too, once no input is Queued.
+    EndedBy(u32, u32),
+    /// The last input's finish ends a drain.
+    LastInputEndsDrain,
+    /// The finish of the last Queued output ends a drain, whatever its flags.
+    LastOutputEndsDrain,
+    /// The buffer that carries EOS is answered under the drain's ticket.
+    LastOutputOfDrainTicket,
+    /// The buffer that carries EOS is answered without it.
+    LastOutputWithoutEos,
+    /// The buffer that carries EOS stays Queued.
+    LastOutputStaysQueued,
+    /// Behind a buffer, the drain's answer carries the resource's number in place of the stream's.
+    LastDrainOfResource,
+    /// Behind a buffer, the drain is answered under the buffer's ticket.
+    LastDrainOfBufferTicket,
+    /// Behind a buffer, the drain's answer has flags and a size.
+    LastDrainWithFlags,
+    /// Behind a buffer, the drain's answer has no stream.
+    LastDrainWithoutStream,
+    /// EOS frees the inputs.
+    EosFreesInputs,
+    /// EOS stops the other Queued outputs.
+    EosStopsOutputs,
+    /// EOS leaves the other Queued outputs Dequeued, unanswered.
+    EosDequeuesOutputs,
+    /// Where this kind of step ends a drain, those of all streams are dropped, unanswered.
+    EndsAllDrains(u32),
+
+    // Of a finish with EOS that comes before the last input, or is refused for another reason.
+    /// With an input Queued, EOS is taken and leaves the drain owed.
+    EarlyEosLeavesDrain,
+    /// With an input Queued, EOS is taken where these are the flags.
+    EarlyEosTakenWith(u32),
+    /// With an input Queued, EOS is refused, and its buffer is Dequeued, unanswered.
+    EarlyEosDequeues,
+    /// An EOS that was refused with an input Queued ends the drain once the last input is finished.
+    EarlyEosRemembered,
+    /// EOS is refused while another output is Queued, whatever the inputs.
+    EosWaitsForOutputs,
+    /// EOS is refused while an input or another output is Queued.
+    EosWaitsForBoth,
+    /// EOS is refused while there are inputs, Queued or not.
+    EosWaitsForIdleInputs,
+    /// EOS is refused while an input of any stream is Queued.
+    EosWaitsForAnyStream,
+    /// An output is refused while an input is Queued, EOS or not.
+    OutputsWaitForInputs,
+    /// EOS is taken while a drain of any stream is owed; where its own owes none, it answers the
+    /// buffer alone.
+    EosByAnyDrain,
+    /// An EOS that is refused for this reason drops the drain, unanswered.
+    RefusedEosEnds(Why),
+    /// To this kind of report, only the inputs in so many slots, the first ones, can be Queued.
+    QueuedInputsSeenBelow(u32, usize),
+
+    // Of drained reports.
+    /// A drained report is always refused with 5.
+    DrainedRefused,
+    /// A drained report stays owed.
+    DrainedKeepsDrain,
+    /// A drained report is refused while an input of any stream is Queued.
+    DrainedWaitsForAnyStream,
+    /// A drained report is refused while there are inputs, whatever the outputs.
     DrainedLooksAtInputs,
-    /// Without EOS, a drained report is refused while there are resources of either queue.
+    /// A drained report is refused while there are resources of either queue.
     DrainedLooksAtBoth,
     /// To a drained report, outputs in this state are none.
     OutputsOverlooked(Why),
@@ -139,44 +200,8 @@ pub enum Slip {
     OutputsOfAnyStream,
     /// Whether there are outputs is asked when the drain comes and not when it is reported.
     OutputsAskedAtDrain,
-    /// To this kind of report, EOS was given where it was to any stream's drain.
-    EosOfAnyStream(u32),
-    /// An EOS is given to the drains of all streams.
-    EosGivenToAll,
-    /// A finish of this queue with these flags gives EOS too.
-    EosGivenBy(u32, u32),
-    /// A finish with these flags gives no EOS.
-    EosNotGivenBy(u32),
-    /// The finish of the last Queued output gives EOS, whatever its flags.
-    LastOutputGivesEos,
-    /// A second EOS is taken where it comes with ERR.
-    SecondWithErrTaken,
-    /// A second EOS, which is refused, drops the mark.
-    SecondDropsMark,
-    /// An EOS that is refused for this reason is given all the same; with no drain owed, to the next.
-    RefusedEosGiven(Why),
-    /// A drained report that is refused for this reason counts as EOS.
-    RefusedDrainedGives(Why),
-    /// A drained report that is refused for this reason drops the mark.
-    RefusedDrainedLoses(Why),
     /// A drained report that is refused for this reason drops the drain, unanswered.
     RefusedDrainedEnds(Why),
-    /// A refused drain drops the mark.
-    RefusedDrainLosesMark,
-    /// This kind of step, on this queue, drops the mark.
-    MarkLostBy(u32, u32),
-    /// This kind of step, on this queue, gives EOS.
-    MarkGivenBy(u32, u32),
-    /// Where this kind of step answers a drain, or begins one, the marks of all streams are dropped.
-    AnswerDropsAllMarks(u32),
-    /// Where this kind of step answers a drain, the mark is kept for the next drain.
-    MarkOutlives(u32),
-    /// A new drain has the mark.
-    NewDrainMarked,
-    /// To this kind of step, a drain with EOS given is not owed.
-    MarkedIsNoDrain(u32),
-    /// An EOS drops the drain, unanswered.
-    EosForgetsDrain,
 
     // Of the spent numbers.
     /// A number may be created again once its stream is destroyed.
@@ -242,18 +267,10 @@ pub enum Slip {
     DrainWordTaken(u32),
     /// A table is taken in which the drain's word is 2^31 or more.
     HighDrainWordTaken,
-    /// A table in which the drain's word is 2 is not valid.
-    MarkedRefused,
-    /// Where the drain's word is 2, the ticket has to be 0.
-    MarkedTicketRefused,
-    /// 2 is read as 1 in the drain's word.
-    MarkReadAs1,
-    /// This is written in place of 2 in the drain's word.
-    MarkWrittenAs(u32),
-    /// With the mark the ticket is not written.
-    MarkWithoutTicket,
-    /// A destruction leaves the drain's word where it is 2.
-    DestroyLeavesMark,
+    /// Where this kind of step ends a drain, this word of the drain stays as it was.
+    DrainWordLeft(u32, usize),
+    /// Where a finish ends a drain, this word of its buffer stays as it was.
+    LastOutputWordLeft(usize),
     /// A live number of at most 1,023 need not be spent.
     LowLiveTaken,
     /// A live number above 1,023 is taken.
@@ -282,8 +299,8 @@ pub enum Slip {
     TableBeforeRoom,
     /// A creation that is good but for its short room spends its number.
     ShortRoomSpends,
-    /// An EOS that is good but for its short room is given.
-    ShortRoomGivesEos,
+    /// A step that would end a drain but for its short room drops it.
+    ShortRoomEndsDrain,
     /// The room's bytes behind those written are cleared.
     RoomCleared,
     /// This kind of step, or making fresh, refuses a table under so many words.
@@ -311,12 +328,8 @@ impl Slip {
             | Slip::ClearSetsQueueHead
             | Slip::DrainWordTaken(_)
             | Slip::HighDrainWordTaken
-            | Slip::MarkedRefused
-            | Slip::MarkedTicketRefused
-            | Slip::MarkReadAs1
-            | Slip::MarkWrittenAs(_)
-            | Slip::MarkWithoutTicket
-            | Slip::DestroyLeavesMark
+            | Slip::DrainWordLeft(..)
+            | Slip::LastOutputWordLeft(_)
             | Slip::StepForgets(_)
             | Slip::LowLiveTaken
             | Slip::HighLiveTaken
@@ -332,7 +345,7 @@ impl Slip {
             | Slip::HolesRefused
             | Slip::TableBeforeRoom
             | Slip::ShortRoomSpends
-            | Slip::ShortRoomGivesEos
+            | Slip::ShortRoomEndsDrain
             | Slip::RoomCleared
             | Slip::Needs(..)
             | Slip::AllWordsAsked
@@ -360,23 +373,14 @@ impl Slip {
     /// bit put there to keep it would be caught at once and show nothing of the slip. So these are
     /// left to the logs, where the device goes on from step to step.
     pub fn remembers(self) -> bool {
-        matches!(
-            self,
-            Slip::OutputsAskedAtDrain
-                | Slip::MarkOutlives(_)
-                | Slip::RefusedEosGiven("EOS with no drain owed")
-        )
+        matches!(self, Slip::OutputsAskedAtDrain | Slip::EarlyEosRemembered)
     }
 
     /// Whether a report that is refused changes the records.
     pub fn changes_refused(self) -> bool {
         matches!(
             self,
-            Slip::SecondDropsMark
-                | Slip::RefusedEosGiven(_)
-                | Slip::RefusedDrainedGives(_)
-                | Slip::RefusedDrainedLoses(_)
-                | Slip::RefusedDrainedEnds(_)
+            Slip::EarlyEosDequeues | Slip::RefusedEosEnds(_) | Slip::RefusedDrainedEnds(_)
         )
     }
 }
@@ -416,21 +420,63 @@ const NAMED: &[Slip] = &[
     Slip::InputOfPlainType,
     Slip::OutputOfPlainType,
     Slip::ErrOfPlainType,
+    Slip::EosOfPlainType,
     Slip::BufferWithoutSize,
     Slip::DestroyAllEndsDrain,
-    Slip::LastInputEndsDrain,
-    Slip::EosEndsDrain,
     Slip::OutputRefusedWhileDraining,
-    Slip::DrainedWaitsForOutputs,
-    Slip::DrainedKeepsDrain,
     Slip::TypeIn16Bits,
     Slip::PaddingLookedAt,
     Slip::TimestampIn32Bits,
     Slip::HalfSecondStride,
     Slip::DefaultPlaneSizes,
-    Slip::DrainedNeedsEos,
-    Slip::DrainedNeedsNoOutputs,
-    Slip::DrainedAfterEosNeedsOutputs,
+    Slip::DrainBeforeLastOutput,
+    Slip::EosKeepsDrain,
+    Slip::EosLeavesDrain,
+    Slip::EosForgetsDrain,
+    Slip::NotEndedBy(EOS),
+    Slip::NotEndedBy(ERR + EOS),
+    Slip::EndedBy(INPUT, 0),
+    Slip::EndedBy(INPUT, ERR),
+    Slip::EndedBy(OUTPUT, 0),
+    Slip::EndedBy(OUTPUT, ERR),
+    Slip::LastInputEndsDrain,
+    Slip::LastOutputEndsDrain,
+    Slip::LastOutputOfDrainTicket,
+    Slip::LastOutputWithoutEos,
+    Slip::LastOutputStaysQueued,
+    Slip::LastDrainOfResource,
+    Slip::LastDrainOfBufferTicket,
+    Slip::LastDrainWithFlags,
+    Slip::LastDrainWithoutStream,
+    Slip::EosFreesInputs,
+    Slip::EosStopsOutputs,
+    Slip::EosDequeuesOutputs,
+    Slip::EndsAllDrains(FINISH),
+    Slip::EndsAllDrains(DRAINED),
+    Slip::EndsAllDrains(QUEUE_CLEAR),
+    Slip::EndsAllDrains(STREAM_DESTROY),
+    Slip::EarlyEosLeavesDrain,
+    Slip::EarlyEosTakenWith(EOS),
+    Slip::EarlyEosTakenWith(ERR + EOS),
+    Slip::EarlyEosDequeues,
+    Slip::EarlyEosRemembered,
+    Slip::EosWaitsForOutputs,
+    Slip::EosWaitsForBoth,
+    Slip::EosWaitsForIdleInputs,
+    Slip::EosWaitsForAnyStream,
+    Slip::OutputsWaitForInputs,
+    Slip::EosByAnyDrain,
+    Slip::RefusedEosEnds("flags outside ERR and EOS"),
+    Slip::RefusedEosEnds("no buffer now Queued"),
+    Slip::RefusedEosEnds("EOS on an input"),
+    Slip::RefusedEosEnds("EOS with an input still Queued"),
+    Slip::QueuedInputsSeenBelow(FINISH, 1),
+    Slip::QueuedInputsSeenBelow(FINISH, SLOTS - 1),
+    Slip::QueuedInputsSeenBelow(DRAINED, 1),
+    Slip::QueuedInputsSeenBelow(DRAINED, SLOTS - 1),
+    Slip::DrainedRefused,
+    Slip::DrainedKeepsDrain,
+    Slip::DrainedWaitsForAnyStream,
     Slip::DrainedLooksAtInputs,
     Slip::DrainedLooksAtBoth,
     Slip::OutputsOverlooked("Created"),
@@ -441,52 +487,8 @@ const NAMED: &[Slip] = &[
     Slip::OutputsSeenBelow(SLOTS - 1),
     Slip::OutputsOfAnyStream,
     Slip::OutputsAskedAtDrain,
-    Slip::EosOfAnyStream(FINISH),
-    Slip::EosOfAnyStream(DRAINED),
-    Slip::EosGivenToAll,
-    Slip::EosGivenBy(INPUT, 0),
-    Slip::EosGivenBy(INPUT, ERR),
-    Slip::EosGivenBy(OUTPUT, 0),
-    Slip::EosGivenBy(OUTPUT, ERR),
-    Slip::EosNotGivenBy(EOS),
-    Slip::EosNotGivenBy(ERR + EOS),
-    Slip::LastOutputGivesEos,
-    Slip::SecondWithErrTaken,
-    Slip::SecondDropsMark,
-    Slip::RefusedEosGiven("flags outside ERR and EOS"),
-    Slip::RefusedEosGiven("no buffer now Queued"),
-    Slip::RefusedEosGiven("EOS on an input"),
-    Slip::RefusedEosGiven("EOS with no drain owed"),
-    Slip::RefusedDrainedGives("an input still Queued"),
-    Slip::RefusedDrainedGives("EOS not given, and outputs there"),
-    Slip::RefusedDrainedLoses("an input still Queued"),
     Slip::RefusedDrainedEnds("an input still Queued"),
-    Slip::RefusedDrainedEnds("EOS not given, and outputs there"),
-    Slip::RefusedDrainLosesMark,
-    Slip::MarkLostBy(RESOURCE_CREATE, INPUT),
-    Slip::MarkLostBy(RESOURCE_CREATE, OUTPUT),
-    Slip::MarkLostBy(RESOURCE_QUEUE, OUTPUT),
-    Slip::MarkLostBy(RESOURCE_DESTROY_ALL, INPUT),
-    Slip::MarkLostBy(RESOURCE_DESTROY_ALL, OUTPUT),
-    Slip::MarkLostBy(QUEUE_CLEAR, OUTPUT),
-    Slip::MarkLostBy(SET_PARAMS, OUTPUT),
-    Slip::MarkLostBy(FINISH, INPUT),
-    Slip::MarkLostBy(FINISH, OUTPUT),
-    Slip::MarkGivenBy(RESOURCE_DESTROY_ALL, OUTPUT),
-    Slip::MarkGivenBy(QUEUE_CLEAR, OUTPUT),
-    Slip::AnswerDropsAllMarks(STREAM_DESTROY),
-    Slip::AnswerDropsAllMarks(STREAM_DRAIN),
-    Slip::AnswerDropsAllMarks(QUEUE_CLEAR),
-    Slip::AnswerDropsAllMarks(DRAINED),
-    Slip::MarkOutlives(QUEUE_CLEAR),
-    Slip::MarkOutlives(DRAINED),
-    Slip::NewDrainMarked,
-    Slip::MarkedIsNoDrain(STREAM_DESTROY),
-    Slip::MarkedIsNoDrain(STREAM_DRAIN),
-    Slip::MarkedIsNoDrain(RESOURCE_QUEUE),
-    Slip::MarkedIsNoDrain(QUEUE_CLEAR),
-    Slip::MarkedIsNoDrain(DRAINED),
-    Slip::EosForgetsDrain,
+    Slip::RefusedDrainedEnds("output resources there"),
     Slip::OnlyLiveRefused,
     Slip::OnlyDestroyedRefused,
     Slip::DestroyedAskedLast,
@@ -519,17 +521,20 @@ const NAMED: &[Slip] = &[
     Slip::HighQueueHeadTaken,
     Slip::QueueHeadStopsQueueing,
     Slip::ClearSetsQueueHead,
+    Slip::DrainWordTaken(2),
     Slip::DrainWordTaken(3),
-    Slip::DrainWordTaken(4),
     Slip::DrainWordTaken(u32::MAX),
     Slip::HighDrainWordTaken,
-    Slip::MarkedRefused,
-    Slip::MarkedTicketRefused,
-    Slip::MarkReadAs1,
-    Slip::MarkWrittenAs(1),
-    Slip::MarkWrittenAs(3),
-    Slip::MarkWithoutTicket,
-    Slip::DestroyLeavesMark,
+    Slip::DrainWordLeft(FINISH, DRAIN_AT),
+    Slip::DrainWordLeft(FINISH, DRAIN_AT + 1),
+    Slip::DrainWordLeft(DRAINED, DRAIN_AT),
+    Slip::DrainWordLeft(DRAINED, DRAIN_AT + 1),
+    Slip::DrainWordLeft(COMMAND, DRAIN_AT),
+    Slip::DrainWordLeft(COMMAND, DRAIN_AT + 1),
+    Slip::LastOutputWordLeft(0),
+    Slip::LastOutputWordLeft(2),
+    Slip::LastOutputWordLeft(3),
+    Slip::LastOutputWordLeft(4),
     Slip::LowLiveTaken,
     Slip::HighLiveTaken,
     Slip::LiveByLastBits,
@@ -545,7 +550,7 @@ const NAMED: &[Slip] = &[
     Slip::HolesRefused,
     Slip::TableBeforeRoom,
     Slip::ShortRoomSpends,
-    Slip::ShortRoomGivesEos,
+    Slip::ShortRoomEndsDrain,
     Slip::RoomCleared,
     Slip::AllWordsAsked,
     Slip::FreshFills(SPENT_AT),
@@ -571,7 +576,10 @@ const OF_TESTS: &[Slip] = &[
     Slip::First(QUERY_CONTROL, "unsupported control"),
     Slip::First(SET_CONTROL, "stream not live"),
     Slip::First(FINISH, "no buffer now Queued"),
-    Slip::First(FINISH, "a second EOS"),
+    Slip::First(FINISH, EARLY),
+    Slip::Beyond(FINISH, EARLY, "no buffer now Queued"),
+    Slip::Beyond(FINISH, "EOS on an input", EARLY),
+    Slip::Beyond(FINISH, "EOS with no drain owed", EARLY),
     Slip::Last(FINISH, "no buffer now Queued"),
     Slip::Last(FINISH, "flags outside ERR and EOS"),
     Slip::Gives(STREAM_CREATE, "no place", INVALID_PARAMETER),
@@ -580,9 +588,12 @@ const OF_TESTS: &[Slip] = &[
     Slip::Gives(RESOURCE_QUEUE, "already Queued", INVALID_RESOURCE),
     Slip::Gives(STREAM_DRAIN, "already draining", INVALID_PARAMETER),
     Slip::Gives(FINISH, "EOS with no drain owed", 5),
-    Slip::Gives(FINISH, "a second EOS", 5),
-    Slip::Gives(DRAINED, "EOS not given, and outputs there", 6),
+    Slip::Gives(FINISH, EARLY, 6),
+    Slip::Gives(DRAINED, "output resources there", 6),
 ];
+
+/// The last test of a finish.
+const EARLY: Why = "EOS with an input still Queued";
 
 /// The fields of a creation, by the tests made of them.
 const FIELDS: [Why; 5] = [
@@ -633,7 +644,7 @@ fn of_numbers() -> Vec<Slip> {
     let mut slips = Vec::new();
     for why in OF_NUMBER {
         slips.push(Slip::First(STREAM_CREATE, why));
-        slips.extend(FIELDS.map(|field| Slip::Behind(STREAM_CREATE, why, field)));
+        slips.extend(FIELDS.map(|field| Slip::Beyond(STREAM_CREATE, why, field)));
         slips.push(Slip::Last(STREAM_CREATE, why));
         slips.extend(
             [INVALID_OPERATION, OUT_OF_MEMORY, INVALID_PARAMETER]

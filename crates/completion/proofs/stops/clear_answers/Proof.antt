@@ -2,9 +2,9 @@
 use mathlib.Core.Path.{refl}
 use mathlib.Core.List.{[], _∷_, _++_}
 use borrow.Author.Needs.{needs}
-use Rattle.model.specs.Device.{buffers}
+use Rattle.model.specs.Device.{isInput, buffers}
 use Rattle.model.specs.Answers.{success}
-use Rattle.model.specs.Commands.{stoppedAnswers, drainEnded, drainAnswers, isInput}
+use Rattle.model.specs.Commands.{stoppedAnswers, drainEnded, drainAnswers}
 use Rattle.protocol.specs.QueueTypes.{queueTypeOf}
 use Rattle.answer.specs.Answer.{answerTo}
 use Rattle.answer.proofs.Laws.{wrote-plain}

@@ -1,15 +1,12 @@
 -- `completion::clear_words` meets its contract: the drain first, then the queue.
 use mathlib.Core.Path.{ap, _∙_}
 use mathlib.Core.Bool.{Bool}
-use lib.ListN.{length}
 use borrow.Author.Needs.{needs}
-use Rattle.model.specs.Device.{Queue, occupied, queueOf, withQueue}
-use Rattle.model.specs.Commands.{withoutEnded, isInput, cleared}
+use Rattle.model.specs.Device.{isInput, occupied}
+use Rattle.model.specs.Commands.{withoutEnded, cleared}
 use Rattle.table.specs.Blocks.{placeWords}
 use Rattle.protocol.specs.QueueTypes.{queueTypeOf}
-use Rattle.table.proofs.Records.{queue-sized, queue-lent}
-use Rattle.stream.proofs.Steps.{slot-count}
-use Rattle.completion.proofs.Ends.{queue-kept}
+use Rattle.completion.proofs.Ends.{queue-ended}
 use Rattle.completion.proofs.stops.clear_words.Statement.{statement}
 use Rattle.completion.proofs.stops.clear_words.Tie as tie
 
@@ -49,12 +46,9 @@ returns c n b h =
     let after-end-drain = after-queue-start .before .before .before in let after-is-input = after-end-drain .before .before in
     let start = after-is-input .before .before in
     let q = queueTypeOf (start .args .queue) in
-    let x = withoutEnded (isInput q) b in
-    queue-lent n x (queue-sized n x (λ o. ap (λ (y : Queue). length (y .slots)) (queue-kept o (isInput q) b) ∙ slot-count h o)) q _
-    (after-queue-start .queue-start .ensures .1) _
-    (after-end-drain .end-drain .ensures n b (h .held) ∙ ap (λ (y : Bool). placeWords (occupied n (withoutEnded y b))) (after-is-input .is-input .ensures)) _
-    (cleared (queueOf q x)) (after-stop-all .stop-all .ensures (queueOf q x))
-    ∙ ap (λ (y : Queue). placeWords (occupied n (withQueue q (cleared y) x))) (queue-kept q (isInput q) b)
+    queue-ended h (isInput q) q _ (after-queue-start .queue-start .ensures .1) _ _ cleared
+    (after-end-drain .end-drain .ensures n b (h .held) ∙ ap (λ (e : Bool). placeWords (occupied n (withoutEnded e b))) (after-is-input .is-input .ensures))
+    (after-stop-all .stop-all .ensures)
 
 pub clear-words-spec : {M : Type 1} → statement M
 clear-words-spec =

@@ -2,7 +2,7 @@
 use mathlib.Core.Path.{refl}
 use mathlib.Core.List.{[], _∷_, _++_}
 use borrow.Author.Needs.{needs}
-use Rattle.model.specs.Device.{input, output, drainTicket, buffers}
+use Rattle.model.specs.Device.{input, output, buffers}
 use Rattle.model.specs.Answers.{success}
 use Rattle.model.specs.Commands.{stoppedAnswers, drainAnswers}
 use Rattle.answer.specs.Answer.{answerTo}
@@ -17,8 +17,8 @@ stop-queue-requires c κs = search needs
 stop-queue-requires-2 : tie.Need-stop-queue-requires-2
 stop-queue-requires-2 c κs = search needs
 
-drain-answer-requires : tie.Need-drain-answer-requires
-drain-answer-requires c κs = search needs
+ended-answer-requires : tie.Need-ended-answer-requires
+ended-answer-requires c κs = search needs
 
 put-plain-requires : tie.Need-put-plain-requires
 put-plain-requires c κs = search needs
@@ -28,15 +28,15 @@ same-length c = search needs
 
 returns : tie.Need-returns
 returns c n b h =
-    let after-put-plain = c .before .before in let after-drain-answer = after-put-plain .before .before .before .before in
-    let after-stop-queue2 = after-drain-answer .before .before .before .before in let after-stop-queue = after-stop-queue2 .before .before .before .before in
+    let after-put-plain = c .before .before in let after-ended-answer = after-put-plain .before .before .before .before in
+    let after-stop-queue2 = after-ended-answer .before .before .before .before in let after-stop-queue = after-stop-queue2 .before .before .before .before in
     let start = after-stop-queue .before .before .before .before in
     let outputs = stoppedAnswers (start .args .stream) output (buffers output b) in
-    let drain = drainAnswers (start .args .stream) (drainTicket b) in
+    let drain = drainAnswers (start .args .stream) (b .draining) in
     let itself = answerTo (start .args .ticket) (start .args .stream) success ∷ [] in
     wrote-more (stoppedAnswers (start .args .stream) input (buffers input b)) (outputs ++ (drain ++ itself)) (after-stop-queue .stop-queue .ensures .1 n b h)
     (wrote-more outputs (drain ++ itself) (after-stop-queue2 .stop-queue2 .ensures .1 n b h)
-    (wrote-more drain itself (after-drain-answer .drain-answer .ensures .1 n b h) (wrote-plain (start .args .ticket) (start .args .stream) success refl (after-put-plain .put-plain .ensures))))
+    (wrote-more drain itself (after-ended-answer .ended-answer .ensures .1 n b h) (wrote-plain (start .args .ticket) (start .args .stream) success refl (after-put-plain .put-plain .ensures))))
 
 pub destroy-answers-spec : {M : Type 1} → statement M
 destroy-answers-spec =
@@ -44,7 +44,7 @@ destroy-answers-spec =
     (tie.spec
     stop-queue-requires
     stop-queue-requires-2
-    drain-answer-requires
+    ended-answer-requires
     put-plain-requires
     same-length
     returns)

@@ -2,7 +2,7 @@
 use mathlib.Core.Path.{sym, _∙_}
 use borrow.Author.Needs.{needs}
 use Rattle.model.specs.Device.{input}
-use Rattle.completion.proofs.Ends.{buffer-next, wrote-stopped}
+use Rattle.completion.proofs.Ends.{buffer-next, wrote-buffer}
 use Rattle.completion.proofs.stops.stop_answer.Statement.{statement}
 use Rattle.completion.proofs.stops.stop_answer.Tie as tie
 
@@ -23,7 +23,7 @@ returns c =
     let after-put-buffer = c .before .before in let after-slot-timestamp = after-put-buffer .before .before in
     let after-slot-ticket = after-slot-timestamp .before in (
       buffer-next _ _ _ _ input (after-put-buffer .put-buffer .ensures input),
-      λ Q t i e p u. wrote-stopped _ _ _ t i (after-slot-ticket .slot-ticket .ensures Q e ∙ sym p) (after-slot-timestamp .slot-timestamp .ensures Q e ∙ sym u)
+      λ Q t i e p u. wrote-buffer _ 1 t (after-slot-ticket .slot-ticket .ensures Q e ∙ sym p) (after-slot-timestamp .slot-timestamp .ensures Q e ∙ sym u)
           (after-put-buffer .put-buffer .ensures t),
     )
 

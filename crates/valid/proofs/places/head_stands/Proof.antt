@@ -1,6 +1,6 @@
 -- `valid::places::head_stands` meets its contract: a law for each case of the drain word.
-use mathlib.Core.Path.{_∙_}
-use Prim.Native.Nat.{_≤_}
+use mathlib.Core.Path.{_≡_, _∙_}
+use Prim.Native.Nat.{ℕ}
 use borrow.Author.Needs.{needs}
 use Rattle.valid.proofs.PlaceStands.{head-idle, head-draining, head-other}
 use Rattle.valid.proofs.places.head_stands.Statement.{statement}
@@ -40,9 +40,9 @@ all-zero-requires-2 c κs = search needs
 
 returns-2 : tie.Need-returns-2
 returns-2 c =
-    let then2 = c .before .before in let else1 = then2 .before in let start = else1 .before .before .before in
-    let known : _ ≤ 2 = then2 .if2 .taken in
-    c .all-zero2 .ensures ∙ head-draining _ (start .pre .0) (start .pre .1) (else1 .if1 .left) known
+    let then2 = c .before .before in let start = then2 .before .before .before .before in
+    let pending : _≡_ {A = ℕ} _ 1 = then2 .if2 .taken in
+    c .all-zero2 .ensures ∙ head-draining _ (start .pre .0) (start .pre .1) pending
 
 returns-3 : tie.Need-returns-3
 returns-3 c =
