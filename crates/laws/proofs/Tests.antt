@@ -14,14 +14,10 @@ use Rattle.laws.specs.Tests.{within, allBelow, lowestBelow}
 pub never : {P : Type 0} → _≡_ {A = Bool} true false → P
 never e = absurd (true≢false e)
 
--- a test that is not true is false, and one that is not false is true
+-- a test that is not true is false
 pub ne-true : (t : Bool) → (t ≡ true → ⊥) → t ≡ false
 ne-true true h = absurd (h refl)
 ne-true false h = refl
-
-pub ne-false : (t : Bool) → (t ≡ false → ⊥) → t ≡ true
-ne-false true h = refl
-ne-false false h = absurd (h refl)
 
 -- two tests of which each holds where the other does are one
 pub tests-same : (a b : Bool) → (a ≡ true → b ≡ true) → (b ≡ true → a ≡ true) → a ≡ b

@@ -165,7 +165,8 @@ spentCases =
     ∷ []
 
 -- The last picture and its drain: both are answered by one report, also with ERR, and then none is pending; not while an input is Queued; the EOS rule is tested
--- before that; a drained report is for a stream without outputs, of which one that is only Created counts, and without a Queued input
+-- before that; a drained report is for a stream without outputs, of which one that is only Created counts, and without a Queued input;
+-- a clear then answers the input before the drain
 abbrev pub lastPictureCases : List Case
 lastPictureCases =
     case (bothDraining ++ askQueue 5 0x101 9 77 1 ∷ [])
@@ -174,8 +175,9 @@ lastPictureCases =
     (finish 7 0x101 9 2 88 refused 5 ∷ finish 7 0x100 9 2 0 refused 6 ∷ finish 7 0x100 9 0 0 gives bufferEnds 6 78 0 ∷ finish 7 0x101 9 2 88 gives (bufferEnds 5 88 2 ++ successTo 4) ∷ [])
     ∷ case (bothQueues ++ askQueue 5 0x101 9 77 1 ∷ askQueue 6 0x100 9 78 1 ∷ []) (finish 7 0x101 9 2 88 refused 6 ∷ [])
     ∷ case (askCreate ∷ askResource 0x101 9 ∷ askDrain 4 ∷ []) (drained 7 refused 5 ∷ [])
-    ∷ case (askCreate ∷ askResource 0x100 9 ∷ askDrain 4 ∷ []) (drained 7 gives successTo 4 ∷ [])
-    ∷ case (askCreate ∷ askResource 0x100 9 ∷ askQueue 5 0x100 9 77 1 ∷ askDrain 4 ∷ []) (drained 7 refused 5 ∷ [])
+    ∷ case (askCreate ∷ askResource 0x100 9 ∷ askDrain 4 ∷ []) (drained 7 gives successTo 4 ∷ askDrain 5 gives [] ∷ [])
+    ∷ case (askCreate ∷ askResource 0x100 9 ∷ askQueue 5 0x100 9 77 1 ∷ askDrain 4 ∷ [])
+    (drained 7 refused 5 ∷ askClear 6 0x100 gives (bufferEnds 5 77 1 ++ (successTo 4 ++ successTo 6)) ∷ [])
     ∷ []
 
 -- What no run shows: only condition 3 asks whose step it is, what is accepted or 'out of memory', what is pending, and which lists there
