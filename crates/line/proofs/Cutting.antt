@@ -1,7 +1,7 @@
 -- However a log is cut into pieces, the calls on them write what the log writes.
 use mathlib.Core.Path.{_≡_, refl, sym, ap, ap₂, _∙_}
 use mathlib.Core.Bool.{Bool, true, false, cond, not}
-use mathlib.Core.List.{List, [], _∷_, _++_, append-assoc, append-nil}
+use mathlib.Core.List.{List, [], _∷_, _++_, map, append-assoc, append-nil}
 use Prim.Native.Nat.{ℕ, zero, suc, _≤_, _<_}
 use native.Mathlib.Omega.{arith}
 use lib.Dec.{eqb, ltb}
@@ -14,11 +14,11 @@ use Rattle.laws.proofs.Tests.{both, and-left, and-right}
 use Rattle.laws.proofs.Lists.{decide, all-append}
 use Rattle.model.specs.Tables.{Layout}
 use Rattle.line.specs.Hex.{isHex}
-use Rattle.line.specs.Line.{Line, lineOf}
-use Rattle.line.specs.Split.{prefixed, linesIn, lineRoom, kept, lineEnd, split}
+use Rattle.line.specs.Line.{lineOf}
+use Rattle.line.specs.Split.{prefixed, linesIn, lineRoom, kept, lineEnd, Split, split}
 use Rattle.line.specs.Log.{onLine, lineStep, linesOutput, logOutput}
-use Rattle.line.specs.Reading.{Reader, Call, stepDone, onPiece, lastStep, atEnd, start, callsOutput, usedOf, allUsed, offersIn, offers, allOffers}
-use Rattle.line.specs.Promises.{OverLong, KeptDecides, UsesSome, AnyCalls, AnyCutting}
+use Rattle.line.specs.Reading.{onPiece, lastStep, start, callsOutput, usedOf, allUsed, offersIn, offers, allOffers, linesRead}
+use Rattle.line.specs.Promises.{OverLong, KeptDecides, UsesSome, AnyLines, AnyCalls, AnyCutting}
 use Rattle.laws.proofs.Pieces.{pieces-append}
 use Rattle.line.proofs.Frames.{over-long-hex, line-bad}
 use Rattle.line.proofs.Lines.{end-within}
@@ -59,6 +59,10 @@ keep-more line text =
     (λ e. let long = ltb-true lineRoom (length line) e in keep-front (kept line) text (omega (arith, keep-most line (omega arith))) ∙ keep-twice line ∙ sym (keep-front line text (omega arith)))
     (λ e. ap (λ (l : List ℕ). kept (l ++ text)) (keep-all line (ltb-false lineRoom (length line) e)))
 
+kept-none : kept [] ≡ []
+unfolding kept
+kept-none = refl
+
 -- Lines without byte 10
 
 abbrev noTen : List ℕ → Bool
@@ -94,18 +98,14 @@ lines-last (b ∷ l) h =
     one [] = refl
     one (x ∷ l) = refl
 
--- A call on a piece
+-- A piece behind what is kept of a line
 
-module _ (L : Layout) (t line piece : List ℕ) where
-  abbrev reader : Reader
-  reader = record { table = t; line = kept line }
-
-  -- the piece has a byte 10: the line ends there and is stepped
+module _ (line piece : List ℕ) where
+  -- the piece has a byte 10: the line ends there
   module _ (e : ltb (lineEnd piece) (length piece) ≡ true) where
-    call-ended : onPiece L reader piece ≡ stepDone (suc (lineEnd piece)) (lineStep L t (line ++ take (lineEnd piece) piece))
-    unfolding onPiece split lineStep
-    call-ended = rw e (ap (λ (l : List ℕ). stepDone (suc (lineEnd piece)) (onLine L t (lineOf l))) (keep-more line (take (lineEnd piece) piece))
-        ∙ ap (λ (l : Line). stepDone (suc (lineEnd piece)) (onLine L t l)) (kept-decides (line ++ take (lineEnd piece) piece)))
+    split-ended : split (kept line) piece ≡ record { ended = true; used = suc (lineEnd piece); line = kept (line ++ take (lineEnd piece) piece) }
+    unfolding split
+    split-ended = rw e (ap (λ (l : List ℕ). record { ended = true; used = suc (lineEnd piece); line = l }) (keep-more line (take (lineEnd piece) piece)))
 
     used-ended : usedOf piece ≡ take (lineEnd piece) piece ++ 10 ∷ []
     unfolding usedOf split
@@ -118,64 +118,71 @@ module _ (L : Layout) (t line piece : List ℕ) where
     all-of : take (lineEnd piece) piece ≡ piece
     all-of = take-all (lineEnd piece) piece (ltb-false (lineEnd piece) (length piece) e)
 
-    call-open : onPiece L reader piece ≡ record { used = lineEnd piece; text = []; reader = record { table = t; line = kept (line ++ piece) } }
-    unfolding onPiece split
-    call-open =
-        rw e (ap (λ (l : List ℕ). record { used = lineEnd piece; text = []; reader = record { table = t; line = l } }) (keep-more line (take (lineEnd piece) piece) ∙ ap (λ (s : List ℕ). kept (line ++ s)) all-of))
+    split-open : split (kept line) piece ≡ record { ended = false; used = lineEnd piece; line = kept (line ++ piece) }
+    unfolding split
+    split-open =
+        rw e (ap (λ (l : List ℕ). record { ended = false; used = lineEnd piece; line = l }) (keep-more line (take (lineEnd piece) piece) ∙ ap (λ (s : List ℕ). kept (line ++ s)) all-of))
 
     used-open : usedOf piece ≡ piece
     unfolding usedOf split
     used-open = rw e all-of
 
--- All calls
+-- All pieces: the lines that are read are those of the bytes used, each as far as it is kept
 
-kept-none : kept [] ≡ []
+last-read : (line : List ℕ) → linesRead (kept line) [] ≡ map kept (cond (isEmpty line) [] (line ∷ []))
+unfolding linesRead kept
+last-read [] = refl
+last-read (b ∷ l) = refl
+
+lines-read : (line : List ℕ) (ps : List (List ℕ)) → noTen line ≡ true → linesRead (kept line) ps ≡ map kept (linesIn (line ++ allUsed ps))
+unfolding linesRead pieces
+lines-read line [] h = last-read line ∙ ap (map kept) (sym (lines-last line h) ∙ ap linesIn (sym (append-nil line)))
+lines-read line (p ∷ ps) h =
+    decide (ltb (lineEnd p) (length p))
+    (λ e.
+    let here = line ++ take (lineEnd p) p in
+    let more = allUsed ps in
+    let clean : noTen here ≡ true = all-append (λ b. not (eqb b 10)) line (take (lineEnd p) p) ∙ both h (end-clean p) in
+    let lines : linesIn (line ++ (usedOf p ++ more)) ≡ here ∷ linesIn more =
+    ap (λ (u : List ℕ). linesIn (line ++ (u ++ more))) (used-ended line p e)
+    ∙ ap linesIn (simp append-assoc)
+    ∙ lines-ended here more clean in
+    ap (λ (s : Split). cond (s .ended) (s .line ∷ linesRead [] ps) (linesRead (s .line) ps)) (split-ended line p e)
+    ∙ ap (λ (l : List (List ℕ)). kept here ∷ l) (ap (λ (l : List ℕ). linesRead l ps) (sym kept-none) ∙ lines-read [] ps refl)
+    ∙ ap (map kept) (sym lines))
+    (λ e.
+    let clean : noTen (line ++ p) ≡ true =
+    all-append (λ b. not (eqb b 10)) line p ∙ both h (ap noTen (sym (all-of line p e)) ∙ end-clean p) in
+    ap (λ (s : Split). cond (s .ended) (s .line ∷ linesRead [] ps) (linesRead (s .line) ps)) (split-open line p e)
+    ∙ lines-read (line ++ p) ps clean
+    ∙ ap (λ (l : List ℕ). map kept (linesIn l)) (append-assoc line p (allUsed ps) ∙ ap (λ (u : List ℕ). line ++ (u ++ allUsed ps)) (sym (used-open line p e))))
+
+pub any-lines : AnyLines
 unfolding kept
-kept-none = refl
+any-lines ps = lines-read [] ps refl
 
-module _ (L : Layout) (t : List ℕ) where
-  rest-empty : atEnd L (record { table = t; line = kept [] }) ≡ linesOutput L t []
-  unfolding lastStep kept linesOutput
-  rest-empty = refl
-
-  rest-line : (b : ℕ) (l : List ℕ) → atEnd L (record { table = t; line = kept (b ∷ l) }) ≡ linesOutput L t ((b ∷ l) ∷ [])
-  unfolding lastStep kept linesOutput lineStep
-  rest-line b l = ap (λ (x : Line). onLine L t x .text) (kept-decides (b ∷ l)) ∙ sym (append-nil (onLine L t (lineOf (b ∷ l)) .text))
+-- What the calls write is what the lines that are read write, and of these what is kept decides
 
 module _ (L : Layout) where
-  at-last : (t line : List ℕ) → noTen line ≡ true → atEnd L (record { table = t; line = kept line }) ≡ linesOutput L t (linesIn line)
-  at-last t line h = of line h ∙ ap (linesOutput L t) (sym (lines-last line h))
-    where
-      of : (line : List ℕ) → noTen line ≡ true → atEnd L (record { table = t; line = kept line }) ≡ linesOutput L t (cond (isEmpty line) [] (line ∷ []))
-      of [] h = rest-empty L t
-      of (b ∷ l) h = rest-line L t b l
+  calls-write : (t line : List ℕ) (ps : List (List ℕ)) → callsOutput L (record { table = t; line = line }) ps ≡ linesOutput L t (linesRead line ps)
+  unfolding callsOutput linesRead linesOutput onPiece lastStep
+  calls-write t [] [] = refl
+  calls-write t (b ∷ l) [] = sym (append-nil (lineStep L t (b ∷ l) .text))
+  calls-write t line (p ∷ ps) =
+      let s = split line p in
+      let here = lineStep L t (s .line) in
+      decide (s .ended)
+      (λ e. rw e (ap (λ (o : List ℕ). here .text ++ o) (calls-write (here .table) [] ps)))
+      (λ e. rw e (calls-write t (s .line) ps))
 
-  calls-are : (t line : List ℕ) (ps : List (List ℕ)) → noTen line ≡ true → callsOutput L (record { table = t; line = kept line }) ps ≡ linesOutput L t (linesIn (line ++ allUsed ps))
-  unfolding callsOutput pieces linesOutput
-  calls-are t line [] h = at-last t line h ∙ ap (λ (l : List ℕ). linesOutput L t (linesIn l)) (sym (append-nil line))
-  calls-are t line (p ∷ ps) h =
-      decide (ltb (lineEnd p) (length p))
-      (λ e. let here = line ++ take (lineEnd p) p in
-      let s = lineStep L t here in
-      let more = allUsed ps in
-      let clean : noTen here ≡ true = all-append (λ b. not (eqb b 10)) line (take (lineEnd p) p) ∙ both h (end-clean p) in
-      let lines : linesIn (line ++ (usedOf p ++ more)) ≡ here ∷ linesIn more =
-      ap (λ (u : List ℕ). linesIn (line ++ (u ++ more))) (used-ended L t line p e)
-      ∙ ap linesIn (simp append-assoc)
-      ∙ lines-ended here more clean in
-      ap (λ (c : Call). c .text ++ callsOutput L (c .reader) ps) (call-ended L t line p e)
-      ∙ ap (λ (o : List ℕ). s .text ++ o) (ap (λ (l : List ℕ). callsOutput L (record { table = s .table; line = l }) ps) (sym kept-none) ∙ calls-are (s .table) [] ps refl)
-      ∙ ap (linesOutput L t) (sym lines))
-      (λ e.
-      let clean : noTen (line ++ p) ≡ true =
-      all-append (λ b. not (eqb b 10)) line p ∙ both h (ap noTen (sym (all-of L t line p e)) ∙ end-clean p) in
-      ap (λ (c : Call). c .text ++ callsOutput L (c .reader) ps) (call-open L t line p e)
-      ∙ calls-are t (line ++ p) ps clean
-      ∙ ap (λ (l : List ℕ). linesOutput L t (linesIn l)) (append-assoc line p (allUsed ps) ∙ ap (λ (u : List ℕ). line ++ (u ++ allUsed ps)) (sym (used-open L t line p e))))
+  kept-write : (t : List ℕ) (lines : List (List ℕ)) → linesOutput L t (map kept lines) ≡ linesOutput L t lines
+  unfolding linesOutput lineStep
+  kept-write t [] = refl
+  kept-write t (l ∷ lines) = rw (kept-decides l) (ap (λ (o : List ℕ). onLine L t (lineOf l) .text ++ o) (kept-write (onLine L t (lineOf l) .table) lines))
 
 pub any-calls : (L : Layout) → AnyCalls L
-unfolding logOutput kept
-any-calls L ps = calls-are L (start L .table) [] ps refl
+unfolding logOutput
+any-calls L ps = calls-write L (start L .table) [] ps ∙ ap (linesOutput L (start L .table)) (any-lines ps) ∙ kept-write L (start L .table) (linesIn (allUsed ps))
 
 -- Pieces that are offered until they are used up
 

@@ -16,7 +16,7 @@ use Rattle.line.specs.Hex.{hexText}
 use Rattle.line.specs.Line.{Line, stepLine, refusedLine, noFrame, lineOf}
 use Rattle.line.specs.Split.{kept, linesIn, split}
 use Rattle.line.specs.Log.{refusalLine, Whole, shown, stepped, logOutput}
-use Rattle.line.specs.Reading.{start, callsOutput, allUsed, allOffers}
+use Rattle.line.specs.Reading.{start, callsOutput, allUsed, allOffers, linesRead}
 
 -- Lines
 
@@ -62,6 +62,10 @@ WritesAnswers L = (t : List ℕ) (a : Act) (room : List ℕ) → goodAct a ≡ t
 -- a call uses no more than its piece has, and a byte or more where it has any
 abbrev pub UsesSome : Type 0
 UsesSome = (line piece : List ℕ) → (split line piece .used ≤ length piece) × (0 < length piece → 0 < split line piece .used)
+
+-- the lines that calls on any pieces read are those of the bytes that they use, each as far as it is kept
+abbrev pub AnyLines : Type 0
+AnyLines = (ps : List (List ℕ)) → linesRead [] ps ≡ map kept (linesIn (allUsed ps))
 
 -- calls on any pieces write what the log of the bytes that they use writes
 abbrev pub AnyCalls : Layout → Type 0

@@ -57,6 +57,11 @@ usedOf piece = take (split [] piece .used) piece
 abbrev pub allUsed : List (List ℕ) → List ℕ
 allUsed ps = pieces usedOf ps
 
+-- the lines that calls on these pieces end, behind what is kept of a line, and the last one where the log ends, unless it is empty
+unfoldable pub linesRead : List ℕ → List (List ℕ) → List (List ℕ)
+linesRead line [] = cond (isEmpty line) [] (line ∷ [])
+linesRead line (p ∷ ps) = cond (split line p .ended) (split line p .line ∷ linesRead [] ps) (linesRead (split line p .line) ps)
+
 -- A piece is offered until it is used up: first the whole, then what each call left of it, in at most k calls
 
 unfoldable pub offersIn : ℕ → List ℕ → List (List ℕ)
