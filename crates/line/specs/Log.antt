@@ -62,6 +62,9 @@ module _ (L : Layout) where
   linesOutput t [] = []
   linesOutput t (line ∷ lines) = lineStep t line .text ++ linesOutput (lineStep t line .table) lines
 
+  abbrev pub freshTable : List ℕ
+  freshTable = freshen L (zeros tableWords) .table
+
   -- a whole log, from a fresh table
   unfoldable pub logOutput : List ℕ → List ℕ
-  logOutput log = linesOutput (freshen L (zeros tableWords) .table) (linesIn log)
+  logOutput log = linesOutput freshTable (linesIn log)

@@ -14,15 +14,15 @@ use Rattle.model.specs.WellFormed.{goodAct}
 use Rattle.model.specs.Tables.{Layout, effect}
 use Rattle.line.specs.Hex.{hexText}
 use Rattle.line.specs.Line.{Line, stepLine, refusedLine, noFrame, lineOf}
-use Rattle.line.specs.Split.{kept, linesIn, split}
+use Rattle.line.specs.Split.{longestLine, kept, linesIn, split}
 use Rattle.line.specs.Log.{refusalLine, Whole, shown, stepped, logOutput}
 use Rattle.line.specs.Reading.{start, callsOutput, allUsed, allOffers, linesRead}
 
 -- Lines
 
--- a line of more than 8,378 bytes is no frame
+-- an over-long line is no frame
 abbrev pub OverLong : Type 0
-OverLong = (line : List ℕ) → 8378 < length line → lineOf line ≡ noFrame
+OverLong = (line : List ℕ) → longestLine < length line → lineOf line ≡ noFrame
 
 -- what is kept of a line decides what it stands for
 abbrev pub KeptDecides : Type 0

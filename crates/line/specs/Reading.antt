@@ -4,11 +4,10 @@ use mathlib.Core.Bool.{cond}
 use mathlib.Core.List.{List, [], _∷_, _++_}
 use lib.ListN.{length, take, drop}
 use Rattle.laws.specs.Lists.{isEmpty}
-use Rattle.laws.specs.Parts.{pieces, zeros}
-use Rattle.model.specs.Numbers.{tableWords}
-use Rattle.model.specs.Tables.{Layout, freshen}
+use Rattle.laws.specs.Parts.{pieces}
+use Rattle.model.specs.Tables.{Layout}
 use Rattle.line.specs.Split.{Split, split}
-use Rattle.line.specs.Log.{Logged, lineStep}
+use Rattle.line.specs.Log.{Logged, lineStep, freshTable}
 
 -- the table, and what is kept of the line that has not ended
 pub record Reader : Type 0 where
@@ -43,7 +42,7 @@ module _ (L : Layout) where
 
   -- a fresh table, and no line begun
   abbrev pub start : Reader
-  start = record { table = freshen L (zeros tableWords) .table; line = [] }
+  start = record { table = freshTable L; line = [] }
 
   -- all that calls on these pieces write, one after the other, and then the end of the log
   unfoldable pub callsOutput : Reader → List (List ℕ) → List ℕ

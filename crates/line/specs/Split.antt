@@ -18,9 +18,13 @@ linesIn (b ∷ s) = cond (eqb b 10) ([] ∷ linesIn s) (prefixed b (linesIn s))
 
 -- Reading in pieces
 
--- what is kept of a line: all that can be a frame, 8,378 digits, and one byte more, which shows that the line is over-long
+-- the digits of the longest frame; a line of more bytes is over-long
+abbrev pub longestLine : ℕ
+longestLine = 8378
+
+-- what is kept of a line: all that can be a frame, and one byte more, which shows that the line is over-long
 abbrev pub lineRoom : ℕ
-lineRoom = 8379
+lineRoom = suc longestLine
 
 unfoldable pub kept : List ℕ → List ℕ
 kept line = take lineRoom line

@@ -6,7 +6,9 @@ mod writing;
 
 pub use decoding::decode_line;
 pub use splitting::LINE_ROOM;
+pub use splitting::at_most;
 pub use splitting::gather;
+pub use splitting::line_end;
 pub use writing::put_outcome;
 pub use writing::put_refusal;
 

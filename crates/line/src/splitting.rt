@@ -1,6 +1,6 @@
 // Lines out of what is read in pieces, with room for one line.
 ghost use mathlib.Core.Path.{_≡_};
-ghost use Prim.Native.Nat.{_-_, _≤_};
+ghost use Prim.Native.Nat.{_-_, _≤_, min};
 ghost use lib.ListN.{length, take, drop};
 ghost use Rattle.laws.specs.Stores.{Wrote};
 ghost use Rattle.line.specs.Split.{lineRoom, lineEnd, split, gathered};
@@ -34,7 +34,7 @@ pub fn gather(held: &mut [u8], have: usize, piece: &[u8]) -> Gathered
 }
 
 // The place of the first byte 10, or the length where there is none.
-fn line_end(piece: &[u8]) -> usize
+pub fn line_end(piece: &[u8]) -> usize
     ensures { λ r. ⌜ r ≡ lineEnd (now (piece .entry)) ⌝ }
 {
     let mut i = 0;
@@ -45,6 +45,16 @@ fn line_end(piece: &[u8]) -> usize
         i += 1;
     }
     i
+}
+
+// A number, or the most where it is above that: no more is read of a buffer than it has.
+pub fn at_most(n: usize, most: usize) -> usize
+    ensures { λ r. ⌜ r ≡ min n most ⌝ }
+{
+    if most < n {
+        return most;
+    }
+    n
 }
 
 // Stores text behind the `have` bytes that are kept, as far as it is kept; returns the place after it.

@@ -1,10 +1,8 @@
 // The log as it is run: lines out of what is read in pieces, and a step for each. A program over it only reads, calls and writes.
 ghost use mathlib.Core.Path.{_≡_};
-ghost use mathlib.Core.List.{List};
-ghost use Prim.Native.Nat.{ℕ, _<_, _≤_};
+ghost use Prim.Native.Nat.{_<_, _≤_};
 ghost use lib.ListN.{length, take};
 ghost use Rattle.table.specs.Blocks.{layout};
-ghost use Rattle.line.specs.Split.{lineRoom};
 ghost use Rattle.line.specs.Log.{lineStep};
 ghost use Rattle.line.specs.Reading.{onPiece, lastStep};
 ghost use Rattle.replay.specs.Fed.{Logs, Did};
@@ -36,7 +34,7 @@ pub fn feed(
     lines::feed(
         table,
         held,
-        within_room(have),
+        line::at_most(have, LINE_ROOM),
         piece,
         &mut frame,
         &mut answers,
@@ -64,20 +62,9 @@ pub fn last_line(table: &mut [u32], held: &[u8; 8379], have: usize, out: &mut [u
     lines::last_line(
         table,
         held,
-        within_room(have),
+        line::at_most(have, LINE_ROOM),
         &mut frame,
         &mut answers,
         out,
     )
-}
-
-// No more is kept than there is room for.
-fn within_room(have: usize) -> usize
-    ensures fits { λ r. ⌜ r ≤ lineRoom ⌝ }
-    ensures same { λ r. ⌜ ((l : List ℕ) → length l ≡ lineRoom → take r l ≡ take have l) ⌝ }
-{
-    if LINE_ROOM < have {
-        return LINE_ROOM;
-    }
-    have
 }

@@ -1,17 +1,19 @@
--- `replay::feed` meets its contract: what is within_room is the same within its room.
+-- `replay::feed` meets its contract: no more is read of the room than it has.
 use mathlib.Core.Path.{ap}
 use mathlib.Core.List.{List}
 use Prim.Native.Nat.{ℕ}
 use Rattle.laws.proofs.Stores.{wrote-length}
 use Rattle.table.specs.Blocks.{layout}
 use Rattle.line.specs.Reading.{onPiece}
+use Rattle.line.specs.Split.{lineRoom}
+use Rattle.line.proofs.Lines.{take-most}
 use Rattle.replay.proofs.Steps.{as-call, used-some}
 use borrow.Author.Needs.{needs}
 use Rattle.replay.proofs.feed.Statement.{statement}
 use Rattle.replay.proofs.feed.Tie as tie
 
-within-room-requires : tie.Need-within-room-requires
-within-room-requires c κs = search needs
+at-most-requires : tie.Need-at-most-requires
+at-most-requires c κs = search needs
 
 slice-aggregate-feed : tie.Need-slice-aggregate-feed
 slice-aggregate-feed c = search needs
@@ -27,18 +29,18 @@ same-length c = search needs
 
 returns : tie.Need-returns
 returns c =
-    let after-feed = c .before .before .before .before in let after-within-room = after-feed .before .before .before .before in
-    let start = after-within-room .before .before .before .before .before in
+    let after-feed = c .before .before .before .before in let after-at-most = after-feed .before .before .before .before in
+    let start = after-at-most .before .before .before .before .before in
     let a = start .args in
     let did = as-call (ap (λ (l : List ℕ). onPiece layout (record { table = a .table .now; line = l }) (a .piece .now))
-    (after-within-room .within-room .ensures .1 (a .held .now) (search needs))) (after-feed .feed .ensures .1) in
+    (take-most (a .have) lineRoom (a .held .now) (after-at-most .at-most .ensures) (search needs))) (after-feed .feed .ensures .1) in
     (rw (wrote-length (did .wrote)) (after-feed .feed .ensures .0 .1), (used-some _ (a .piece .now) did, did))
 
 pub feed-spec : {M : Type 1} → statement M
 feed-spec =
     tie.close
     (tie.spec
-    within-room-requires
+    at-most-requires
     slice-aggregate-feed
     slice-aggregate-feed-2
     feed-requires
