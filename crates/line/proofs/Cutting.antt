@@ -29,7 +29,7 @@ pub over-long : OverLong
 over-long line h = decide (isHex line) (λ e. over-long-hex line e h) (λ e. line-bad line e)
 
 -- what is kept of a line that is not over-long is the line
-keep-all : (line : List ℕ) → length line ≤ lineRoom → kept line ≡ line
+pub keep-all : (line : List ℕ) → length line ≤ lineRoom → kept line ≡ line
 unfolding kept
 keep-all line h = take-all lineRoom line h
 
@@ -65,7 +65,7 @@ kept-none = refl
 
 -- Lines without byte 10
 
-abbrev noTen : List ℕ → Bool
+abbrev pub noTen : List ℕ → Bool
 noTen l = allOf (λ b. not (eqb b 10)) l
 
 end-clean : (p : List ℕ) → noTen (take (lineEnd p) p) ≡ true
@@ -79,7 +79,7 @@ unfolding lineEnd
 end-ten [] h = absurd (omega arith)
 end-ten (b ∷ p) h = decide (eqb b 10) (λ e. rw e (eqb-true b 10 e)) (λ e. rw e (end-ten p (omega (arith, (rw e at h)))))
 
-lines-ended : (l s : List ℕ) → noTen l ≡ true → linesIn (l ++ 10 ∷ s) ≡ l ∷ linesIn s
+pub lines-ended : (l s : List ℕ) → noTen l ≡ true → linesIn (l ++ 10 ∷ s) ≡ l ∷ linesIn s
 unfolding linesIn
 lines-ended [] s h = refl
 lines-ended (b ∷ l) s h =
@@ -204,7 +204,7 @@ offers-used (suc k) (b ∷ s) h =
     ap (λ (r : List ℕ). take n (b ∷ s) ++ r) (offers-used k (drop n (b ∷ s)) (omega (arith, length-drop n (b ∷ s), some-used)))
     ∙ take-append-drop n (b ∷ s)
 
-all-used : (ps : List (List ℕ)) → allUsed (allOffers ps) ≡ pieces (λ (p : List ℕ). p) ps
+pub all-used : (ps : List (List ℕ)) → allUsed (allOffers ps) ≡ pieces (λ (p : List ℕ). p) ps
 unfolding pieces
 all-used [] = refl
 all-used (p ∷ ps) = pieces-append usedOf (offers p) (allOffers ps) ∙ ap₂ (λ (a b : List ℕ). a ++ b) (offers-used (length p) p (omega arith)) (all-used ps)

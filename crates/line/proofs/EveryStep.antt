@@ -27,7 +27,7 @@ use Rattle.line.proofs.Frames.{line-hex}
 below16 : List ℕ
 below16 = 0 ∷ 1 ∷ 2 ∷ 3 ∷ 4 ∷ 5 ∷ 6 ∷ 7 ∷ 8 ∷ 9 ∷ 10 ∷ 11 ∷ 12 ∷ 13 ∷ 14 ∷ 15 ∷ []
 
-digit-back : (n : ℕ) → n < 16 → digitOf (lowerDigit n) ≡ n
+pub digit-back : (n : ℕ) → n < 16 → digitOf (lowerDigit n) ≡ n
 unfolding below16 digitOf lowerDigit within
 digit-back n h = sym (table-rule (λ k. digitOf (lowerDigit k)) below16 tt n h) ∙ table-rule (λ k. k) below16 tt n h
 
