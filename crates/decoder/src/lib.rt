@@ -1,11 +1,15 @@
-// The command core of a virtio-video decoder, for a host that links it: four functions, safe on any bytes and words. Each states its whole
-// outcome by one equation to the model: `freshen` and `effect` of crates/model/specs/Tables, over the layout of crates/table/specs/Blocks.
+// The command core of a virtio-video decoder, for a host that links it: four functions of a device and one of logs, safe on any bytes and words. Each
+// states its whole outcome by one equation: the four to the model, `freshen` and `effect` of crates/model/specs/Tables, the check of a log to
+// `logVerdict` of crates/log_verdict/specs/Checking, over the layout of crates/table/specs/Blocks.
 ghost use mathlib.Core.Path.{_≡_};
 ghost use Rattle.model.specs.Steps.{command, finish, drained};
 ghost use Rattle.model.specs.Tables.{freshen, effect};
 ghost use Rattle.table.specs.Blocks.{layout};
 ghost use Rattle.table.specs.Values.{freshened};
 ghost use Rattle.guard.specs.AsEffect.{asEffect};
+ghost use Rattle.log_verdict.specs.Checking.{logVerdict};
+ghost use Rattle.checker.specs.Meant.{numberedBy};
+use checker::NumberedVerdict;
 use protocol::Outcome;
 
 // Makes a table fresh: the used words are those of no stream.
@@ -55,4 +59,12 @@ pub extern "C" fn virtio_video_drained(
     ensures { λ r. ⌜ asEffect r (now (table .exit)) (now (answers .exit)) ≡ effect layout (now (table .entry)) (drained stream) (now (answers .entry)) ⌝ }
 {
     guard::drained(table, stream, answers)
+}
+
+// The verdict on a log of questions and answers, such as another maker's device gave: its number, and the line that is named.
+#[no_mangle]
+pub extern "C" fn virtio_video_check_log(log: &[u8]) -> NumberedVerdict
+    ensures { λ r. ⌜ r ≡ numberedBy (logVerdict layout (now (log .entry))) ⌝ }
+{
+    checker::numbered_verdict(log)
 }

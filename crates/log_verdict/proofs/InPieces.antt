@@ -1,7 +1,7 @@
 -- However a log is cut into pieces, the calls on them give the verdict on the whole; numbers of lines in 64 bits are the true ones as far as these go.
 use mathlib.Core.Path.{_≡_, refl, ap, _∙_}
 use mathlib.Core.List.{List, [], _∷_, map}
-use Prim.Native.Nat.{ℕ, suc, _≤_, min}
+use Prim.Native.Nat.{ℕ, suc, _≤_, _<_, min}
 use native.Mathlib.Omega.{arith}
 use lib.Dec.{ltb}
 use lib.ListN.{length}
@@ -14,9 +14,10 @@ use Rattle.line.specs.Reading.{allUsed, allOffers, linesRead}
 use Rattle.line.proofs.Cutting.{keep-all, any-lines, all-used}
 use Rattle.log_verdict.specs.Kinds.{sameLine, LineKind, questionKind, answerKind, neitherKind, kindOf}
 use Rattle.log_verdict.specs.Checking.{missing, extra, different, noLine, LogVerdict, acceptedLog, wrongLine, lineNamed, CheckState, rightSoFar, stoppedAt, answersOn, checkBy, checkLine, checkLines, opening, conclude, logVerdict}
-use Rattle.log_verdict.specs.InPieces.{lastNumber, in64, verdictIn64, checkIn64, checkPiece, checkLast, callsVerdict}
+use Rattle.log_verdict.specs.InPieces.{lastNumber, in64, verdictIn64, checkIn64, checkLinesIn64, checkPiece, checkLast, callsVerdict}
 use Rattle.log_verdict.specs.Promises.{VerdictOfCalls, VerdictOfPieces}
 use Rattle.log_verdict.proofs.LineKinds.{kept-kind, long-kind}
+use Rattle.log_verdict.proofs.First.{line-within}
 
 -- Numbers in 64 bits
 
@@ -47,14 +48,10 @@ module _ (L : Layout) where
 
   -- All lines, each counted in 64 bits
 
-  unfoldable pub checkLinesIn64 : CheckState → List (List ℕ) → CheckState
-  checkLinesIn64 j [] = j
-  checkLinesIn64 j (line ∷ lines) = checkLinesIn64 (checkIn64 L j line) lines
-
-  pub all-in64 : (j : CheckState) (lines : List (List ℕ)) → checkLinesIn64 (in64 j) lines ≡ in64 (checkLines L j lines)
+  all-in64 : (j : CheckState) (lines : List (List ℕ)) → checkLinesIn64 L (in64 j) lines ≡ in64 (checkLines L j lines)
   unfolding checkLinesIn64 checkLines
   all-in64 j [] = refl
-  all-in64 j (line ∷ lines) = ap (λ (x : CheckState). checkLinesIn64 x lines) (line-in64 j line) ∙ all-in64 (checkLine L j line) lines
+  all-in64 j (line ∷ lines) = ap (λ (x : CheckState). checkLinesIn64 L x lines) (line-in64 j line) ∙ all-in64 (checkLine L j line) lines
 
   -- of a line what is kept decides
   kept-checked : (j : CheckState) (line : List ℕ) → checkIn64 L j (kept line) ≡ checkIn64 L j line
@@ -65,13 +62,13 @@ module _ (L : Layout) where
       (λ e. let long = ltb-true longestLine (length line) e in rw (kept-kind line long, long-kind line long))
       (λ e. ap (λ (l : List ℕ). in64 (checkBy L (kindOf l) t due n l)) (keep-all line (omega (arith, ltb-false longestLine (length line) e))))
 
-  kept-all : (j : CheckState) (lines : List (List ℕ)) → checkLinesIn64 j (map kept lines) ≡ checkLinesIn64 j lines
+  kept-all : (j : CheckState) (lines : List (List ℕ)) → checkLinesIn64 L j (map kept lines) ≡ checkLinesIn64 L j lines
   unfolding checkLinesIn64
   kept-all j [] = refl
-  kept-all j (line ∷ lines) = ap (λ (x : CheckState). checkLinesIn64 x (map kept lines)) (kept-checked j line) ∙ kept-all (checkIn64 L j line) lines
+  kept-all j (line ∷ lines) = ap (λ (x : CheckState). checkLinesIn64 L x (map kept lines)) (kept-checked j line) ∙ kept-all (checkIn64 L j line) lines
 
   -- the calls check the lines that are read
-  calls-check : (j : CheckState) (line : List ℕ) (ps : List (List ℕ)) → callsVerdict L (record { state = j; line = line }) ps ≡ conclude L (checkLinesIn64 j (linesRead line ps))
+  calls-check : (j : CheckState) (line : List ℕ) (ps : List (List ℕ)) → callsVerdict L (record { state = j; line = line }) ps ≡ conclude L (checkLinesIn64 L j (linesRead line ps))
   unfolding callsVerdict linesRead checkLinesIn64 checkPiece checkLast
   calls-check j [] [] = refl
   calls-check j (b ∷ l) [] = refl
@@ -86,14 +83,19 @@ module _ (L : Layout) where
   verdict-of-calls ps =
       let lines = linesIn (allUsed ps) in
       calls-check (opening L) [] ps
-      ∙ ap (λ (x : List (List ℕ)). conclude L (checkLinesIn64 (opening L) x)) (any-lines ps)
+      ∙ ap (λ (x : List (List ℕ)). conclude L (checkLinesIn64 L (opening L) x)) (any-lines ps)
       ∙ ap (conclude L) (kept-all (opening L) lines ∙ all-in64 (opening L) lines)
       ∙ conclude-in64 (checkLines L (opening L) lines)
 
   pub verdict-of-pieces : VerdictOfPieces L
   verdict-of-pieces ps = verdict-of-calls (allOffers ps) ∙ ap (λ (s : List ℕ). verdictIn64 (logVerdict L s)) (all-used ps)
 
--- a line that 64 bits count is named as it is
-pub same-in64 : (v : LogVerdict) → lineNamed v ≤ lastNumber → verdictIn64 v ≡ v
+-- a line that 64 bits count is named as it is, and so is any of a log with fewer bytes
+same-in64 : (v : LogVerdict) → lineNamed v ≤ lastNumber → verdictIn64 v ≡ v
 same-in64 acceptedLog h = refl
 same-in64 (wrongLine f n) h = ap (wrongLine f) (omega arith)
+
+pub whole-in64 : (L : Layout) (log : List ℕ) → length log < lastNumber → conclude L (checkLinesIn64 L (opening L) (linesIn log)) ≡ logVerdict L log
+unfolding logVerdict
+whole-in64 L log h =
+    ap (conclude L) (all-in64 L (opening L) (linesIn log)) ∙ conclude-in64 L (checkLines L (opening L) (linesIn log)) ∙ same-in64 (logVerdict L log) (omega (arith, line-within L log))

@@ -1,0 +1,5 @@
+pub mod Alike
+pub mod Due
+pub mod Checked
+pub mod Parted
+pub mod Log
