@@ -358,6 +358,27 @@ struct virtio_video_answer {
 	virtio_video_le32 length;
 };
 
+/* What is said of a log with its answers: that it is right, or what is wrong with a line */
+enum virtio_video_verdict_number {
+	VIRTIO_VIDEO_VERDICT_ACCEPTED = 0,
+	/* an answer is due, and a question or the end of the log stands in its place */
+	VIRTIO_VIDEO_VERDICT_MISSING = 1,
+	/* an answer stands where none is due */
+	VIRTIO_VIDEO_VERDICT_EXTRA = 2,
+	/* an answer stands where one is due, and has other bytes */
+	VIRTIO_VIDEO_VERDICT_DIFFERENT = 3,
+	/* the line is neither a frame nor an answer: the refusal 7 of a log */
+	VIRTIO_VIDEO_VERDICT_REFUSED = 7,
+};
+
+/* The result of a check */
+struct virtio_video_verdict {
+	/* the first wrong line, from 1, the end being one past the last; 0 where accepted */
+	uint64_t line;
+	/* one of VIRTIO_VIDEO_VERDICT_* */
+	uint32_t verdict;
+};
+
 /*
  * What is lent to a call, until it returns:
  *
@@ -369,10 +390,12 @@ struct virtio_video_answer {
  *	change during the call.
  * answers, answers_len: where answers go, from its start. What lies behind the bytes
  *	written is left as it was.
+ * log, log_len: the bytes of a log. Only read. Any bytes and any length are safe.
  *
  * A count is in elements, words or bytes, and has to be true. A pointer whose count is 0
- * may be null. The three pieces must not overlap, and nobody else may touch them during the
- * call. Calls on different tables may run at the same time.
+ * may be null. The pieces of one call must not overlap, and nobody else may touch them
+ * during the call. Calls on different tables may run at the same time, and checks of logs
+ * beside any other call.
  */
 
 /*
@@ -419,11 +442,24 @@ struct virtio_video_outcome
 virtio_video_drained(uint32_t *table, size_t words, uint32_t stream,
 		     uint8_t *answers, size_t answers_len);
 
+/*
+ * Judges a log, such as another maker's device wrote: questions and answers, one a line in
+ * hexadecimal, each answer behind its question (docs/LOG.md). The questions are run on a device
+ * of its own, fresh at the start. A log is accepted where the answers are those that the core
+ * gives, in order and whatever the case of their digits; so is an empty one. Judging ends at the
+ * first wrong line.
+ */
+struct virtio_video_verdict
+virtio_video_check_log(const uint8_t *log, size_t log_len);
+
 #ifdef __cplusplus
 } /* extern "C" */
 #endif
 
-/* No struct above has gaps, so that its size is the sum of its fields. */
+/*
+ * No struct above has gaps, so that its size is the sum of its fields; but virtio_video_verdict
+ * has 4 bytes behind them.
+ */
 #if defined(__cplusplus) && __cplusplus >= 201103L
 #define VIRTIO_VIDEO_SIZE(type, bytes) \
 	static_assert(sizeof(struct type) == (bytes), "size of " #type)
@@ -449,6 +485,7 @@ VIRTIO_VIDEO_SIZE(virtio_video_get_params_resp, 120);
 VIRTIO_VIDEO_SIZE(virtio_video_set_params, 120);
 VIRTIO_VIDEO_SIZE(virtio_video_outcome, 8);
 VIRTIO_VIDEO_SIZE(virtio_video_answer, 8);
+VIRTIO_VIDEO_SIZE(virtio_video_verdict, 16);
 #undef VIRTIO_VIDEO_SIZE
 #endif
 

@@ -1,5 +1,5 @@
 #!/usr/bin/env python3
-"""Writes examples/: the logs and what they are to be answered with.
+"""Writes examples/: the logs and what they are to be answered with, and logs with answers and what is to be said of them.
 
 Each line of a log stands here with its answer, as documents 01 and 02 have it: nothing is computed but the
 digits. A command's ticket is the number of its line unless said otherwise, so that answers are
@@ -138,6 +138,15 @@ class Log:
         out = "".join(answer.bytes.hex() + "\n" for _, _, answers in self.rows for answer in answers)
         (folder / f"{self.name}.log").write_bytes(log.encode())
         (folder / f"{self.name}.out").write_bytes(out.encode())
+
+    def write_checked(self, folder, name, verdict, left_out=None):
+        """The log with its answers, each behind its question, but for the one of this text; and the verdict on it."""
+        lines = []
+        for _, digits, answers in self.rows:
+            lines.append(digits)
+            lines += [answer.bytes.hex() for answer in answers if answer.text != left_out]
+        (folder / f"{name}.checked").write_bytes("".join(line + "\n" for line in lines).encode())
+        (folder / f"{name}.verdict").write_bytes(f"{verdict}\n".encode())
 
     def table(self):
         """One row a line; lines with the same text and the same sort of answer share a row."""
@@ -827,11 +836,16 @@ def lines():
 
 
 def main():
+    folder = Path(__file__).resolve().parent.parent / "examples"
     for make in three_lines, exchange, edges, orders, streams, most, lines:
         if "--tables" in sys.argv:
             make().table()
         else:
-            make().write(Path(__file__).resolve().parent.parent / "examples")
+            make().write(folder)
+    if "--tables" not in sys.argv:
+        exchange().write_checked(folder, "exchange", "accepted")
+        # Line 37 answers the picture with EOS; the drain that ends with it should be answered behind it, and is not.
+        exchange().write_checked(folder, "rival", "line 38: missing", left_out="the drain of line 15")
 
 
 if __name__ == "__main__":

@@ -1,6 +1,6 @@
 #!/usr/bin/env bash
 # The host's side: the archives, the C headers, the host in C, and the Rust package with its tests and
-# its example. Each part counts as one, and each test of Cargo too.
+# its examples. Each part counts as one, and each test of Cargo too.
 # The last line is `N passed, M failed`, and the exit status is 0 exactly where M is 0.
 set -u
 CDPATH='' cd -- "$(dirname -- "${BASH_SOURCE[0]}")/../.." || exit 2
@@ -27,7 +27,7 @@ build_archives
 for name in "${archives[@]}"; do
     part "the proof of lib$name.a assumes no function's contract" assumes_nothing "$name"
 done
-part "libdecoder.a exports the four functions" exports decoder virtio_video_{command,drained,finish,fresh}
+part "libdecoder.a exports its five functions" exports decoder virtio_video_{check_log,command,drained,finish,fresh}
 part "libsound.a exports its one function" exports sound virtio_snd_control
 
 warnings=(-Wall -Wextra -Wpedantic -Werror)
@@ -46,5 +46,9 @@ part "the host in C, one program over both archives, with sanitizers" make -C ho
 # shellcheck disable=SC2119
 cargo_tests
 part "the example in Rust" cargo run "${package[@]}" --quiet --example exchange
+# A log in words ends with the checker's verdict.
+explained() { cargo run "${package[@]}" --quiet --example explain -- "examples/$1.checked" | grep -Fx "The checker says: $(cat "examples/$1.verdict")"; }
+part "a right log in words" explained exchange
+part "a wrong log in words" explained rival
 
 summed_up

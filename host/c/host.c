@@ -1,8 +1,8 @@
 /*
  * A small host: it makes a decoder, plays a guest and a back end to it, and prints what the
- * guest gets; then it does so with a sound device. Each step's result and bytes are compared
- * with those worked out by hand from the drafts and the scope; the exit status is 1 where any
- * of them differs.
+ * guest gets; it has logs checked; then it plays to a sound device. Each step's result and bytes,
+ * and each verdict, are compared with those worked out by hand from the drafts and the scope; the
+ * exit status is 1 where any of them differs.
  */
 #include <stdio.h>
 #include <stdlib.h>
@@ -511,6 +511,69 @@ static void refusals(void)
 	table[VIRTIO_VIDEO_TABLE_WORDS - 1] = 0;
 }
 
+/* Logs with their answers */
+
+static const char *verdict_name(uint32_t verdict)
+{
+	switch (verdict) {
+	case VIRTIO_VIDEO_VERDICT_ACCEPTED:
+		return "accepted";
+	case VIRTIO_VIDEO_VERDICT_MISSING:
+		return "missing";
+	case VIRTIO_VIDEO_VERDICT_EXTRA:
+		return "extra";
+	case VIRTIO_VIDEO_VERDICT_DIFFERENT:
+		return "different";
+	case VIRTIO_VIDEO_VERDICT_REFUSED:
+		return "refused";
+	default:
+		return "?";
+	}
+}
+
+/* A log, and what is to be said of it */
+static void check_log(const char *what, const char *text, uint32_t verdict, uint64_t line)
+{
+	struct virtio_video_verdict said;
+	const uint8_t *log = (const uint8_t *)text;
+	size_t length = strlen(text);
+
+	printf("log: %s\n", what);
+	/* where there are no bytes, no pointer is asked for */
+	said = virtio_video_check_log(length ? log : NULL, length);
+	if (said.line)
+		printf("    line %llu: ", (unsigned long long)said.line);
+	else
+		printf("    ");
+	printf("%s\n", verdict_name(said.verdict));
+	if (said.verdict != verdict || said.line != line)
+		wrong("the verdict");
+}
+
+/* A drain of a stream that is not there, with ticket 5, and its answer */
+#define ASKS	"00050000000301000007000000\n"
+#define ERROR	"80050000000203000007000000\n"
+
+/* A report that this stream is drained, and its refusal */
+#define REPORTS	"0207000000\n"
+#define REFUSAL	"ff05\n"
+
+static void checking(void)
+{
+	check_log("no lines", "", VIRTIO_VIDEO_VERDICT_ACCEPTED, 0);
+	check_log("two questions, each with its answer", ASKS ERROR REPORTS "FF05",
+		  VIRTIO_VIDEO_VERDICT_ACCEPTED, 0);
+	check_log("a question in place of an answer", ASKS REPORTS REFUSAL,
+		  VIRTIO_VIDEO_VERDICT_MISSING, 2);
+	check_log("the end in place of an answer", ASKS ERROR REPORTS,
+		  VIRTIO_VIDEO_VERDICT_MISSING, 4);
+	check_log("an answer too many", ASKS ERROR REFUSAL REPORTS REFUSAL,
+		  VIRTIO_VIDEO_VERDICT_EXTRA, 3);
+	check_log("an answer to something else", ASKS REFUSAL, VIRTIO_VIDEO_VERDICT_DIFFERENT, 2);
+	check_log("a line that is no line of a log", ASKS ERROR "\n" REPORTS,
+		  VIRTIO_VIDEO_VERDICT_REFUSED, 3);
+}
+
 /* The sound device */
 
 /* 1 or 2 channels of 16 bits, at 44,100 or 48,000 */
@@ -605,6 +668,7 @@ int main(void)
 	spent_numbers();
 	other_drains();
 	refusals();
+	checking();
 	playing();
 
 	/* nothing is left of the streams but that number 7 is spent */

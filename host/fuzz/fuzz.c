@@ -1,6 +1,6 @@
 /*
- * A fuzz entry for libFuzzer and AFL++: raw bytes as table, frame and room, and runs of
- * steps that lead to deep tables. docs/HOST.md says how it is built and run.
+ * A fuzz entry for libFuzzer and AFL++: raw bytes as table, frame, room and log, and runs of
+ * steps that lead to deep tables and long logs. docs/HOST.md says how it is built and run.
  *
  * The archive is not instrumented, so the sanitizers do not see its loads and stores.
  * Instead each piece lent to it ends where a page begins that must not be touched, and
@@ -26,6 +26,7 @@
 #define MOST_WORDS	(WORDS + 64)
 #define MOST_ROOM	(ROOM + 64)
 #define MOST_FRAME	8192
+#define MOST_LOG	65536
 
 #define CHECK(condition) \
 	do { \
@@ -94,7 +95,7 @@ struct lent {
 	size_t most;
 };
 
-static struct lent table_area, frame_area, room_area;
+static struct lent table_area, frame_area, room_area, log_area;
 
 static void reserve(struct lent *area, size_t most)
 {
@@ -124,6 +125,110 @@ static void untouched_before(const uint8_t *start)
 		CHECK(start[-(ptrdiff_t)i] == 0x5a);
 }
 
+#ifdef __clang__
+/* The core has no counters of its own, so the outcomes of steps and logs lead the fuzzer. */
+__attribute__((section("__libfuzzer_extra_counters")))
+#endif
+static uint8_t seen[4096 + 256];
+
+/* --------------------------------------------------------------------------
+ * Logs
+ */
+
+/* Has a log checked, and holds what is said of it to the rules. */
+static struct virtio_video_verdict check(const uint8_t *bytes, size_t length)
+{
+	struct virtio_video_verdict said;
+	uint8_t *log = lend(&log_area, length);
+
+	if (length)
+		memcpy(log, bytes, length);
+	said = virtio_video_check_log(length ? log : NULL, length);
+	untouched_before(log);
+	if (length)
+		CHECK(memcmp(log, bytes, length) == 0);
+	CHECK(said.verdict <= VIRTIO_VIDEO_VERDICT_DIFFERENT ||
+	      said.verdict == VIRTIO_VIDEO_VERDICT_REFUSED);
+	CHECK((said.line == 0) == (said.verdict == VIRTIO_VIDEO_VERDICT_ACCEPTED));
+	CHECK(said.line <= length + 1);
+	/* a log that is right up to a later line is worth keeping */
+	seen[4096 + said.verdict * 32 + (said.line < 31 ? said.line : 31)] = 1;
+	return said;
+}
+
+/* A log that is made line by line */
+static uint8_t record[MOST_LOG];
+static size_t record_len;
+
+static void put_digits(const void *bytes, size_t count)
+{
+	static const char digits[] = "0123456789abcdef";
+	const uint8_t *from = bytes;
+	size_t i;
+
+	for (i = 0; i < count; i++) {
+		record[record_len++] = (uint8_t)digits[from[i] >> 4];
+		record[record_len++] = (uint8_t)digits[from[i] & 15];
+	}
+}
+
+/* The input as a log, and its bytes as digits, of which many more make frames. */
+static void check_input(const uint8_t *data, size_t size)
+{
+	size_t i;
+
+	check(data, size < MOST_LOG ? size : MOST_LOG);
+	record_len = 0;
+	for (i = 0; i < size && record_len + 2 <= MOST_LOG; i++) {
+		if (data[i] == '\n')
+			record[record_len++] = '\n';
+		else
+			put_digits(data + i, 1);
+	}
+	check(record, record_len);
+}
+
+/*
+ * The steps since the table was last made fresh, with their answers, as long as they are such as a
+ * log can have and there is room for them
+ */
+static int recording;
+static uint64_t record_lines, last_answer;
+static size_t last_answer_end;
+
+static void begin_record(int possible)
+{
+	recording = possible;
+	record_len = 0;
+	record_lines = 0;
+	last_answer = 0;
+}
+
+static void end_line(int is_answer)
+{
+	record_lines++;
+	if (is_answer) {
+		last_answer = record_lines;
+		last_answer_end = record_len;
+	}
+	record[record_len++] = '\n';
+}
+
+/* A log of what the core itself answered is accepted, and with one digit changed it is not. */
+static void check_record(void)
+{
+	struct virtio_video_verdict said = check(record, record_len);
+	uint8_t *digit;
+
+	CHECK(said.verdict == VIRTIO_VIDEO_VERDICT_ACCEPTED);
+	if (!last_answer)
+		return;
+	digit = record + last_answer_end - 1;
+	*digit = *digit == '7' ? 'f' : '7';
+	said = check(record, record_len);
+	CHECK(said.verdict == VIRTIO_VIDEO_VERDICT_DIFFERENT && said.line == last_answer);
+}
+
 /* --------------------------------------------------------------------------
  * One step, held to the rules
  */
@@ -143,12 +248,6 @@ static uint32_t *table;
 static size_t words;
 static uint8_t *room;
 static size_t room_len;
-
-#ifdef __clang__
-/* The core has no counters of its own, so the outcomes of steps lead the fuzzer. */
-__attribute__((section("__libfuzzer_extra_counters")))
-#endif
-static uint8_t seen[4096];
 
 static struct virtio_video_outcome call(const struct step *s)
 {
@@ -211,6 +310,61 @@ static unsigned answers(uint32_t written, int *error)
 		count++;
 	}
 	return count;
+}
+
+static void record_question(const struct step *s)
+{
+	static const uint8_t kinds[] = { 0, 1, 2 };
+
+	put_digits(&kinds[s->kind], 1);
+	if (s->kind == COMMAND) {
+		put_digits(&s->ticket, 4);
+		put_digits(s->frame, s->frame_len);
+	} else {
+		put_digits(&s->stream, 4);
+	}
+	if (s->kind == FINISH) {
+		put_digits(&s->queue_type, 4);
+		put_digits(&s->resource, 4);
+		put_digits(&s->flags, 4);
+		put_digits(&s->timestamp, 8);
+	}
+	end_line(0);
+}
+
+static void record_answers(struct virtio_video_outcome outcome)
+{
+	static const uint8_t kind = 0x80;
+	uint8_t refusal[2] = { 0xff, (uint8_t)outcome.refusal };
+	struct virtio_video_answer answer;
+	size_t at;
+
+	if (outcome.refusal) {
+		put_digits(refusal, 2);
+		end_line(1);
+	}
+	for (at = 0; at < outcome.written; at += sizeof(answer) + answer.length) {
+		memcpy(&answer, room + at, sizeof(answer));
+		put_digits(&kind, 1);
+		put_digits(&answer.ticket, 4);
+		put_digits(room + at + sizeof(answer), answer.length);
+		end_line(1);
+	}
+}
+
+static void record_step(const struct step *s, struct virtio_video_outcome outcome)
+{
+	/* a command that is too long for a line changed nothing */
+	if (s->kind == COMMAND && s->frame_len > VIRTIO_VIDEO_MAX_CMD_LENGTH)
+		return;
+	/* 25 bytes of a frame besides its command, and no more of answers than of room */
+	if (words < WORDS || room_len < ROOM ||
+	    record_len + 2 * (25 + s->frame_len + ROOM) > MOST_LOG)
+		recording = 0;
+	if (recording) {
+		record_question(s);
+		record_answers(outcome);
+	}
 }
 
 /*
@@ -289,6 +443,7 @@ static void step(const struct step *s)
 		CHECK(memcmp(table + WORDS, table_before + WORDS, (words - WORDS) * 4) == 0);
 	if (words >= WORDS)
 		check_spent(s, table_before, !outcome.refusal && !error);
+	record_step(s, outcome);
 
 	/* what kind of step, its refusal or first response, and how many answers */
 	what = s->kind * 16 + (s->kind == COMMAND && s->frame_len ? s->frame[0] & 15 : 0);
@@ -450,6 +605,7 @@ static void make_fresh(void)
 		CHECK(table[i] == 0);
 	CHECK(valid());
 	untouched_before((const uint8_t *)table);
+	begin_record(1);
 }
 
 static void one_step(void)
@@ -536,7 +692,10 @@ int LLVMFuzzerTestOneInput(const uint8_t *data, size_t size)
 		reserve(&table_area, MOST_WORDS * 4);
 		reserve(&frame_area, MOST_FRAME);
 		reserve(&room_area, MOST_ROOM);
+		reserve(&log_area, MOST_LOG);
 	}
+	check_input(data, size);
+	begin_record(0);
 	input = data;
 	left = size;
 	first_number = 0;
@@ -551,6 +710,7 @@ int LLVMFuzzerTestOneInput(const uint8_t *data, size_t size)
 		do
 			one_step();
 		while (left);
+		check_record();
 		return 0;
 	}
 
@@ -559,6 +719,7 @@ int LLVMFuzzerTestOneInput(const uint8_t *data, size_t size)
 	make_fresh();
 	while (left > 8)
 		one_step();
+	check_record();
 	note_fullness();
 	if (mode & 2 && words) {
 		table[half() % words] = byte();

@@ -141,6 +141,6 @@ impl<'a> Iterator for Answers<'a> {
 impl FusedIterator for Answers<'_> {}
 
 /// The little-endian number at `at`.
-fn word(bytes: &[u8], at: usize) -> u32 {
+pub(crate) fn word(bytes: &[u8], at: usize) -> u32 {
     u32::from_le_bytes(bytes[at..at + 4].try_into().expect("four bytes"))
 }

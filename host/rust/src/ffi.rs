@@ -1,11 +1,11 @@
-//! The five functions of the two archives, over lent slices: four of the decoder, one of the sound
-//! device.
+//! The six functions of the two archives, over lent slices: four of the decoder and one that checks a
+//! log, and one of the sound device.
 //!
 //! This is the only module with `unsafe`, and it holds nothing else: a Rust slice is what the
 //! functions ask of a pointer and its count (true length, alignment, nobody else at it). They take
-//! any contents and any lengths, so each is a safe function. A [`Decoder`](crate::Decoder) and a
-//! [`PcmOutput`](crate::sound::PcmOutput) are the easier way to call them; these are for a host that
-//! keeps table, state and room in memory of its own.
+//! any contents and any lengths, so each is a safe function. A [`Decoder`](crate::Decoder), the module
+//! [`log`](crate::log) and a [`PcmOutput`](crate::sound::PcmOutput) are the easier way to call them;
+//! these are for a host that keeps table, state and room in memory of its own.
 
 #![allow(unsafe_code)]
 
@@ -17,6 +17,17 @@ pub struct Outcome {
     pub refusal: u32,
     /// Bytes of answers at the start of the room; 0 with a refusal.
     pub written: u32,
+}
+
+/// What is said of a log.
+#[repr(C)]
+#[derive(Clone, Copy, Debug, PartialEq, Eq)]
+pub struct Verdict {
+    /// The line that is named, counted from 1, the end being one past the last; 0 where the log is
+    /// accepted.
+    pub line: u64,
+    /// 0 for accepted, or the number of a [`Fault`](crate::log::Fault).
+    pub verdict: u32,
 }
 
 /// The result of a message to the sound device.
@@ -63,6 +74,8 @@ extern "C" {
         answers: *mut u8,
         answers_len: usize,
     ) -> Outcome;
+
+    fn virtio_video_check_log(log: *const u8, log_len: usize) -> Verdict;
 
     fn virtio_snd_control(
         state: u32,
@@ -139,6 +152,12 @@ pub fn drained(table: &mut [u32], stream: u32, answers: &mut [u8]) -> Outcome {
             answers.len(),
         )
     }
+}
+
+/// Judges a log that holds questions and answers, on a device of its own.
+pub fn check_log(log: &[u8]) -> Verdict {
+    // SAFETY: pointer and length are those of one slice that is lent for the call.
+    unsafe { virtio_video_check_log(log.as_ptr(), log.len()) }
 }
 
 /// A message of the guest to the sound device. The numbers may be any.

@@ -4,8 +4,9 @@
 //! end, and passes the answers on to the guest. The core behind it is an archive whose functions are
 //! proved against their definition; this package only lends it memory. It has no dependencies.
 //!
-//! Beside the decoder stands a small virtio sound device, output only, from an archive of its own: the
-//! module [`sound`].
+//! The module [`log`] is about logs of such commands, reports and answers, and checks those of other
+//! makers' devices. Beside the decoder stands a small virtio sound device, output only, from an archive of
+//! its own: the module [`sound`].
 //!
 //! ```
 //! use virtio_video_decoder::{wire, Decoder, Finish, QueueType, Refusal};
@@ -46,6 +47,7 @@
 
 mod answer;
 pub mod ffi;
+pub mod log;
 mod refusal;
 pub mod sound;
 pub mod wire;

@@ -2,6 +2,7 @@
 
 use std::collections::HashMap;
 use std::fmt::Debug;
+use virtio_video_decoder::log::Fault;
 use virtio_video_decoder::sound::State;
 use virtio_video_decoder::Refusal;
 
@@ -120,6 +121,13 @@ fn refusals_agree() {
     let numbers = named(&video(), "VIRTIO_VIDEO_REFUSAL_");
     assert_eq!(numbers[0], (0, "none".to_owned()));
     assert_eq!(numbers[1..], Refusal::ALL.map(|r| variant(r.number(), r)));
+}
+
+#[test]
+fn verdicts_agree() {
+    let numbers = named(&video(), "VIRTIO_VIDEO_VERDICT_");
+    assert_eq!(numbers[0], (0, "accepted".to_owned()));
+    assert_eq!(numbers[1..], Fault::ALL.map(|f| variant(f.number(), f)));
 }
 
 #[test]

@@ -10,22 +10,22 @@
 mod independent;
 
 use std::collections::BTreeMap;
-use std::io::{Read, Write};
-use std::os::fd::OwnedFd;
-use std::os::unix::net::UnixStream;
+use std::fs;
 use std::path::{Path, PathBuf};
-use std::process::{Child, ChildStdin, Command, ExitStatus, Stdio};
-use std::thread;
-use std::time::{Duration, Instant};
-use std::{env, fs};
+use std::time::Instant;
 
+use independent::by_hand;
 use independent::coverage::{rare, Coverage};
 use independent::device::*;
 use independent::frames;
-use independent::log::{self, answers, answers_of, digits, line_of, Log, Reader, MOST_DIGITS};
+use independent::log::{self, answers, answers_of, line_of, Log, Reader};
 use independent::log_slips::{WrongReader, LOG_SLIPS};
+use independent::program::{
+    self, cut, examples, root, run_with_failed_read, run_with_failed_write, text, variable, Run,
+};
 use independent::random::{Generator, Rng};
-use independent::slips::{self, Slip};
+use independent::random_lines::{generator_act, over_long, random_line, SORTS};
+use independent::slips;
 
 /// Random lines of a run, and of one seed in it.
 const LINES: u64 = 100_000;
@@ -34,46 +34,9 @@ const SEED: u64 = 1;
 /// Lines of a log that is fed byte by byte.
 const LINES_BY_BYTES: u64 = 150;
 
-/// No run takes so long.
-const LIMIT: Duration = Duration::from_secs(300);
-
-fn root() -> PathBuf {
-    Path::new(env!("CARGO_MANIFEST_DIR")).join("../..")
-}
-
-/// The program under test. That it is missing is a failure.
+/// The program under test.
 fn program() -> PathBuf {
-    let path = match env::var_os("VIDEO_LOG") {
-        Some(path) => PathBuf::from(path),
-        None => root().join("target/bin/video_log"),
-    };
-    assert!(
-        path.is_file(),
-        "{} is not there: run `rt check video_log` in the root of the repository, \
-         or set VIDEO_LOG to the program's path",
-        path.display()
-    );
-    path
-}
-
-/// The example logs with what they are to be answered with.
-fn examples() -> Vec<(String, Vec<u8>, Vec<u8>)> {
-    let mut examples = Vec::new();
-    for entry in fs::read_dir(root().join("examples")).expect("examples/") {
-        let path = entry.expect("a file of examples/").path();
-        if path.extension().is_some_and(|extension| extension == "log") {
-            let name = path.file_stem().expect("a name").to_string_lossy().into_owned();
-            let read = |path: &Path| {
-                fs::read(path).unwrap_or_else(|error| panic!("{error}: {}", path.display()))
-            };
-            examples.push((name, read(&path), read(&path.with_extension("out"))));
-        }
-    }
-    examples.sort();
-    let names: Vec<&str> = examples.iter().map(|(name, ..)| &name[..]).collect();
-    let expected = ["edges", "exchange", "lines", "most", "orders", "streams", "three_lines"];
-    assert_eq!(names, expected, "the logs in examples/");
-    examples
+    program::program("VIDEO_LOG", "video_log")
 }
 
 /// Document 01's example and what it says of lines, by hand.
@@ -119,62 +82,11 @@ fn the_independent_log_by_hand() {
     assert_eq!(text(&answers(&input)), output);
 }
 
-/// Steps of stream 7 with its buffers 1, and what is written for them. Tickets and timestamps differ,
-/// so that an answer shows whose it carries.
-mod by_hand {
-    use super::*;
-
-    pub fn told(ticket: u32, frame: Vec<u8>) -> Act {
-        Act::Command { ticket, frame }
-    }
-
-    pub fn import(queue_type: u32) -> Act {
-        told(2, frames::resource_create(7, queue_type, 1, &[1], &[(0, 1)]))
-    }
-
-    /// An input is queued under ticket 3, an output under 4.
-    pub fn queue(queue_type: u32) -> Act {
-        let ticket = if queue_type == INPUT { 3 } else { 4 };
-        told(ticket, frames::resource_queue(7, queue_type, 1, 8, 0))
-    }
-
-    pub fn drain(ticket: u32) -> Act {
-        told(ticket, frames::frame(STREAM_DRAIN, 7, 8))
-    }
-
-    pub fn finish(queue_type: u32, flags: u32) -> Act {
-        Act::Finish(Report { stream: 7, queue_type, resource: 1, flags, timestamp: 9 })
-    }
-
-    pub fn drained() -> Act {
-        Act::Drained { stream: 7 }
-    }
-
-    pub fn done(ticket: u32) -> String {
-        format!("80{ticket:02x}0000000002000007000000\n")
-    }
-
-    /// An input that is finished, with its own timestamp.
-    pub fn input(flags: u32) -> String {
-        format!("8003000000020200000700000008000000000000000{flags}00000000000000\n")
-    }
-
-    /// An output that is finished, with the report's timestamp.
-    pub fn output(flags: u32) -> String {
-        format!("8004000000020200000700000009000000000000000{flags}00000000000000\n")
-    }
-
-    pub fn refused(number: u32) -> String {
-        format!("ff0{number}\n")
-    }
-
-    /// The stream is created, and each step is answered so.
-    pub fn check<const STEPS: usize>(cases: [(Act, String); STEPS]) {
-        let mut log = Log::default();
-        let create = told(1, frames::stream_create(7, 0x1000, b""));
-        for (act, written) in [(create, done(1))].into_iter().chain(cases) {
-            assert_eq!(text(&log.line(&line_of(&act))), written, "{act:x?}");
-        }
+/// Stream 7 is created, and each step is answered so.
+fn check<const STEPS: usize>(cases: [(Act, String); STEPS]) {
+    let mut log = Log::default();
+    for (act, written) in [(by_hand::create(), by_hand::done(1))].into_iter().chain(cases) {
+        assert_eq!(text(&log.line(&line_of(&act))), written, "{act:x?}");
     }
 }
 
@@ -326,8 +238,7 @@ fn memory_does_not_grow() {
 }
 
 /// A read that fails is no end of the log: the lines that ended before it are answered, the half line is
-/// not, and standard error says so. A socket whose other side closes with bytes unread fails so, once
-/// what was sent before has been read.
+/// not, and standard error says so.
 #[test]
 fn a_failed_read_is_no_end() {
     for (sent, answered) in [
@@ -336,12 +247,7 @@ fn a_failed_read_is_no_end() {
         ("0207000000\n", "ff05\n"),
         ("\n0207000000\n020", "ff07\nff05\n"),
     ] {
-        let (ours, theirs) = UnixStream::pair().expect("a pair of sockets");
-        (&theirs).write_all(b"unread").expect("the socket takes it");
-        (&ours).write_all(sent.as_bytes()).expect("the socket takes it");
-        drop(ours);
-        let run = Command::new(program()).stdin(Stdio::from(OwnedFd::from(theirs))).output();
-        let run = run.expect("the program runs");
+        let run = run_with_failed_read(&program(), sent);
         assert_eq!(text(&run.stdout), answered, "{sent:?}");
         assert_eq!(text(&run.stderr), "video_log: the log cannot be read to its end\n", "{sent:?}");
         assert!(run.status.success(), "{sent:?}: {}", run.status);
@@ -352,21 +258,8 @@ fn a_failed_read_is_no_end() {
 #[test]
 fn a_failed_write_ends_the_program() {
     for (sent, open) in [("\n", true), ("\n", false), ("0", false)] {
-        let full = fs::OpenOptions::new().write(true).open("/dev/full").expect("/dev/full");
-        let mut child = Command::new(program())
-            .stdin(Stdio::piped())
-            .stdout(full)
-            .stderr(Stdio::piped())
-            .spawn()
-            .expect("the program runs");
-        let mut input = child.stdin.take().expect("a pipe");
-        input.write_all(sent.as_bytes()).expect("the program reads");
-        let input = open.then_some(input);
-        let errors = read_all(child.stderr.take().expect("a pipe"));
-        let status = wait(child).expect("the program ends");
-        drop(input);
-        let said = errors.join().expect("standard error");
-        assert_eq!(text(&said), "video_log: the answers cannot be written\n", "{sent:?}, {open}");
+        let (said, status) = run_with_failed_write(&program(), sent, open);
+        assert_eq!(said, "video_log: the answers cannot be written\n", "{sent:?}, {open}");
         assert!(status.success(), "{sent:?}, {open}: {status}");
     }
 }
@@ -426,7 +319,7 @@ fn random_logs_tell_slips_apart() {
 /// The slips of the device that a log shows and none of these does.
 fn not_told_apart(logs: &[(String, Vec<u8>, Vec<u8>)]) -> Vec<String> {
     let mut missed = Vec::new();
-    for slip in slips::all().into_iter().filter(shown_by_logs) {
+    for slip in slips::all().into_iter().filter(|slip| slip.shown_by_logs()) {
         let device = Device { slip: Some(slip), ..Device::default() };
         let differs = |input: &[u8], output: &[u8]| answers_of(device.clone(), input) != output;
         match logs.iter().find(|(_, input, output)| differs(input, output)) {
@@ -435,22 +328,6 @@ fn not_told_apart(logs: &[(String, Vec<u8>, Vec<u8>)]) -> Vec<String> {
         }
     }
     missed
-}
-
-/// Places, states that go on alike, the table's words and rooms do not show in a log, and a queue's
-/// last slot hardly does.
-fn shown_by_logs(slip: &Slip) -> bool {
-    !slip.of_words()
-        && !matches!(
-            slip,
-            Slip::HighestPlace
-                | Slip::HighestSlot
-                | Slip::OutputsSeenBelow(_)
-                | Slip::QueuedInputsSeenBelow(_, 2..)
-                | Slip::StreamsMoveDown
-                | Slip::StoppedIsCreated
-                | Slip::FinishedIsCreated
-        )
 }
 
 /// The exchange in docs/LOG.md has the bytes of the example, with blanks and with runs of zeros
@@ -481,18 +358,7 @@ fn the_document_shows_the_exchange() {
 
 /// Runs the program on the pieces; it has to end well and write just this.
 fn compare(program: &Path, pieces: &[&[u8]], input: &[u8], output: &[u8]) -> Result<(), String> {
-    let mut run = Run::start(program);
-    let mut fed = Ok(());
-    for piece in pieces {
-        fed = run.write(piece);
-        if fed.is_err() {
-            break;
-        }
-        if pieces.len() > 1 {
-            run.wait_for_sleep();
-        }
-    }
-    let written = run.end()?;
+    let (written, fed) = program::run(program, pieces)?;
     fed?;
     match written.iter().zip(output).position(|(written, expected)| written != expected) {
         None if written.len() == output.len() => Ok(()),
@@ -528,124 +394,6 @@ fn difference(at: usize, written: &[u8], input: &[u8], output: &[u8]) -> String 
         line + 1
     )
 }
-
-/// A run of the program, its input open.
-struct Run {
-    pid: u32,
-    input: ChildStdin,
-    output: thread::JoinHandle<Vec<u8>>,
-    errors: thread::JoinHandle<Vec<u8>>,
-    status: thread::JoinHandle<Option<ExitStatus>>,
-}
-
-impl Run {
-    fn start(program: &Path) -> Run {
-        let mut child = Command::new(program)
-            .stdin(Stdio::piped())
-            .stdout(Stdio::piped())
-            .stderr(Stdio::piped())
-            .spawn()
-            .unwrap_or_else(|error| panic!("{error}: {}", program.display()));
-        let input = child.stdin.take().expect("a pipe");
-        let output = read_all(child.stdout.take().expect("a pipe"));
-        let errors = read_all(child.stderr.take().expect("a pipe"));
-        Run { pid: child.id(), input, output, errors, status: thread::spawn(move || wait(child)) }
-    }
-
-    fn write(&mut self, piece: &[u8]) -> Result<(), String> {
-        self.input.write_all(piece).map_err(|error| format!("the program reads no more: {error}"))
-    }
-
-    /// Waits until the program has taken in what was written and asks for more, so that the next
-    /// piece comes with a read of its own. A write wakes the program before it returns.
-    fn wait_for_sleep(&self) {
-        while let Ok(stat) = fs::read_to_string(format!("/proc/{}/stat", self.pid)) {
-            // The state stands behind the name, which is in parentheses.
-            let state = stat.rsplit_once(") ").and_then(|(_, rest)| rest.chars().next());
-            if matches!(state, Some('S' | 'Z') | None) {
-                break;
-            }
-            thread::yield_now();
-        }
-    }
-
-    /// In KiB.
-    fn peak_memory(&self) -> u64 {
-        let status = fs::read_to_string(format!("/proc/{}/status", self.pid)).expect("/proc");
-        let peak = status.lines().find_map(|line| line.strip_prefix("VmHWM:")).expect("a peak");
-        peak.trim().trim_end_matches(" kB").parse().expect("a number")
-    }
-
-    /// Ends the input. The program has to end with status 0 and nothing in standard error.
-    fn end(self) -> Result<Vec<u8>, String> {
-        drop(self.input);
-        let status = self.status.join().expect("a status");
-        let (output, errors) =
-            (self.output.join().expect("output"), self.errors.join().expect("errors"));
-        match status {
-            None => Err(format!("the program did not end in {} s", LIMIT.as_secs())),
-            Some(status) if !status.success() => {
-                Err(format!("the program ended with {status}: {}", text(&errors)))
-            }
-            Some(_) if !errors.is_empty() => Err(format!("in standard error: {}", text(&errors))),
-            Some(_) => Ok(output),
-        }
-    }
-}
-
-fn read_all(mut from: impl Read + Send + 'static) -> thread::JoinHandle<Vec<u8>> {
-    thread::spawn(move || {
-        let mut bytes = Vec::new();
-        from.read_to_end(&mut bytes).expect("a pipe that can be read");
-        bytes
-    })
-}
-
-/// The status of the program, which is stopped if it takes too long.
-fn wait(mut child: Child) -> Option<ExitStatus> {
-    let end = Instant::now() + LIMIT;
-    loop {
-        if let Some(status) = child.try_wait().expect("a child") {
-            return Some(status);
-        }
-        if Instant::now() > end {
-            child.kill().expect("a child");
-            child.wait().expect("a child");
-            return None;
-        }
-        thread::sleep(Duration::from_millis(1));
-    }
-}
-
-/// Sorts of random lines.
-const SORTS: [&str; 26] = [
-    "a digit changed to no digit",
-    "a digit dropped",
-    "a digit put in",
-    "a frame a byte longer",
-    "a frame a byte shorter",
-    "a frame cut",
-    "a frame with more behind",
-    "a good frame in both cases",
-    "a good frame in lower case",
-    "a good frame in upper case",
-    "another first byte",
-    "any bytes",
-    "any characters",
-    "any digits",
-    "blanks",
-    "carriage return",
-    "command of 0 to 8 bytes",
-    "command of 4,188 to 4,190 bytes",
-    "empty",
-    "high bit",
-    "over-long, digits",
-    "over-long, a frame in front",
-    "over-long, a frame at the end",
-    "over-long, any bytes",
-    "prefix",
-    "two frames",
-];
 
 /// What random logs have met: the sorts of their lines, and what the lines did that are frames.
 #[derive(Default)]
@@ -709,217 +457,4 @@ fn random_log(seed: u64, lines: u64, met: &mut Met) -> (Vec<u8>, Vec<u8>) {
     }
     assert!(answers(&input) == output, "seed {seed}: the log is not the sum of its lines");
     (input, output)
-}
-
-/// A step, with its command not much longer than a log can hold.
-fn generator_act(generator: &mut Generator, device: &Device) -> Act {
-    let mut act = generator.act(device);
-    if let Act::Command { frame, .. } = &mut act {
-        frame.truncate(5000);
-    }
-    act
-}
-
-/// One line without byte 10.
-fn random_line(generator: &mut Generator, device: &Device) -> (&'static str, Vec<u8>) {
-    let act = generator_act(generator, device);
-    let good = line_of(&act);
-    let planned = generator.has_plan();
-    let rng = &mut generator.rng;
-    // Little would come of a plan with every third line damaged.
-    let kinds = if planned && rng.percent(60) { 700 } else { 1000 };
-    let (sort, mut line) = match rng.below(kinds) {
-        0..700 => match rng.below(3) {
-            0 => ("a good frame in lower case", good),
-            1 => ("a good frame in upper case", good.to_ascii_uppercase()),
-            _ => ("a good frame in both cases", both_cases(rng, good)),
-        },
-        700..900 => {
-            let (sort, line) = damaged(rng, good);
-            (sort, if rng.percent(30) { both_cases(rng, line) } else { line })
-        }
-        900..910 => ("two frames", [&good[..], &good].concat()),
-        910..930 => {
-            let mut frame = vec![0; 5 + rng.below(9)];
-            rng.fill(&mut frame[1..]);
-            ("command of 0 to 8 bytes", digits(&frame))
-        }
-        930..940 => {
-            let length = rng.pick(&[4188, 4188, 4189, 4189, 4189, 4190]);
-            let kind = rng.pick(&[SET_CONTROL, RESOURCE_CREATE, RESOURCE_QUEUE]);
-            let number = device.streams().next().map_or(1, |stream| stream.number);
-            let frame = frames::frame(kind, number, length - 5);
-            (
-                "command of 4,188 to 4,190 bytes",
-                line_of(&Act::Command { ticket: rng.word(), frame }),
-            )
-        }
-        940..955 => ("empty", Vec::new()),
-        955..970 => {
-            let mut bytes = vec![0; rng.below(40)];
-            rng.fill(&mut bytes);
-            ("any digits", digits(&bytes))
-        }
-        970..980 => {
-            let length = rng.below(60);
-            ("any characters", (0..length).map(|_| rng.within(0x20, 0x7e) as u8).collect())
-        }
-        980..990 => {
-            let mut bytes = vec![0; rng.below(200)];
-            rng.fill(&mut bytes);
-            ("any bytes", bytes)
-        }
-        _ => over_long(generator, device),
-    };
-    line.iter_mut().filter(|byte| **byte == 10).for_each(|byte| *byte = 11);
-    (sort, line)
-}
-
-/// A line of more than 8,378 bytes.
-fn over_long(generator: &mut Generator, device: &Device) -> (&'static str, Vec<u8>) {
-    let frame = line_of(&generator_act(generator, device));
-    let rng = &mut generator.rng;
-    let more = rng.pick(&[1, 1, 2, 2, 3, 100, 4096, MOST_DIGITS, 20_000, 70_000]);
-    let length = MOST_DIGITS + more;
-    match rng.below(4) {
-        0 => {
-            let mut bytes = vec![0; length.div_ceil(2)];
-            rng.fill(&mut bytes);
-            bytes[0] = rng.pick(&[0, 1, 2]);
-            let mut line = digits(&bytes);
-            line.truncate(length);
-            ("over-long, digits", line)
-        }
-        1 => {
-            // A command that would fill the line, and more behind it.
-            let number = device.streams().next().map_or(1, |stream| stream.number);
-            let longest = frames::frame(SET_CONTROL, number, MOST_DIGITS / 2 - 5);
-            let mut line = line_of(&Act::Command { ticket: rng.word(), frame: longest });
-            line.resize(length, b'0');
-            ("over-long, a frame in front", line)
-        }
-        2 => {
-            // Behind as many bytes as a buffer may have.
-            let ahead =
-                rng.pick(&[MOST_DIGITS, MOST_DIGITS + 1, MOST_DIGITS + 2, 8192, 16384, 65536]);
-            let digit = rng.pick(b"0fg ");
-            (
-                "over-long, a frame at the end",
-                [&vec![digit; ahead.max(length - frame.len().min(length))][..], &frame].concat(),
-            )
-        }
-        _ => {
-            let mut line = vec![0; length];
-            rng.fill(&mut line);
-            line.iter_mut().filter(|byte| **byte == 10).for_each(|byte| *byte = 0);
-            ("over-long, any bytes", line)
-        }
-    }
-}
-
-/// A good line with something wrong, or with another frame for it.
-fn damaged(rng: &mut Rng, mut line: Vec<u8>) -> (&'static str, Vec<u8>) {
-    let at = rng.below(line.len());
-    match rng.below(12) {
-        0 => {
-            line[at] = rng.pick(b"/:@G`g\0\t\r +-xzZ\x0b\x7f");
-            ("a digit changed to no digit", line)
-        }
-        1 => {
-            line.remove(if rng.percent(50) { line.len() - 1 } else { at });
-            ("a digit dropped", line)
-        }
-        2 => {
-            line.insert(
-                if rng.percent(50) { line.len() } else { at },
-                rng.pick(b"0123456789abcdefABCDEF"),
-            );
-            ("a digit put in", line)
-        }
-        3 => {
-            line.extend(rng.pick(&[b"00", b"00", b"01", b"ff"]));
-            ("a frame a byte longer", line)
-        }
-        4 => {
-            line.truncate(line.len() - 2);
-            ("a frame a byte shorter", line)
-        }
-        5 => {
-            line.truncate(2 * rng.below(line.len() / 2 + 1));
-            ("a frame cut", line)
-        }
-        6 => {
-            let mut more = vec![0; rng.within(1, 30)];
-            rng.fill(&mut more);
-            line.extend(digits(&more));
-            ("a frame with more behind", line)
-        }
-        7 => {
-            let first =
-                rng.pick(&[1, 2, 3, 4, 0x10, 0x20, 0x30, 0x7f, 0x80, 0x80, 0x81, 0xfe, 0xff, 0xff]);
-            line[..2].copy_from_slice(&digits(&[first]));
-            ("another first byte", line)
-        }
-        8 => {
-            let blank = rng.pick(b"  \t\0");
-            let at = rng.pick(&[0, at, line.len(), line.len()]);
-            line.insert(at, blank);
-            if rng.percent(30) {
-                line.insert(at, blank);
-            }
-            ("blanks", line)
-        }
-        9 => {
-            let at = rng.pick(&[0, at, line.len(), line.len(), line.len()]);
-            line.insert(at, b'\r');
-            ("carriage return", line)
-        }
-        10 => {
-            line[at] |= 0x80;
-            ("high bit", line)
-        }
-        _ => {
-            let prefix = rng.pick(&[&b"0x"[..], b"0X", b"\\x", b"#", b"\xef\xbb\xbf", b"-", b"+"]);
-            ("prefix", [prefix, &line].concat())
-        }
-    }
-}
-
-fn both_cases(rng: &mut Rng, mut line: Vec<u8>) -> Vec<u8> {
-    line.iter_mut()
-        .filter(|_| rng.percent(50))
-        .for_each(|character| character.make_ascii_uppercase());
-    line
-}
-
-/// The input in odd pieces, of sizes about those of a line and of a buffer.
-fn cut<'i>(rng: &mut Rng, mut input: &'i [u8]) -> Vec<&'i [u8]> {
-    let mut pieces = Vec::new();
-    while !input.is_empty() {
-        let most = rng.pick(&[3, 60, 600, 600, 5000, 20_000]);
-        let size = match rng.below(12) {
-            0 => rng.pick(&[4095, 4096, 4097, MOST_DIGITS - 1, MOST_DIGITS, MOST_DIGITS + 1]),
-            1 | 2 => {
-                // Beside the end of a line.
-                let line = input.iter().position(|&byte| byte == 10).unwrap_or(0);
-                line + rng.below(3)
-            }
-            _ => rng.within(1, most),
-        };
-        let (piece, rest) = input.split_at(size.clamp(1, input.len()));
-        pieces.push(piece);
-        input = rest;
-    }
-    pieces
-}
-
-fn text(bytes: &[u8]) -> String {
-    String::from_utf8_lossy(bytes).into_owned()
-}
-
-fn variable(name: &str, default: u64) -> u64 {
-    match env::var(name) {
-        Ok(text) => text.parse().unwrap_or_else(|_| panic!("{name} is not a number: {text}")),
-        Err(_) => default,
-    }
 }

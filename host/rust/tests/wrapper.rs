@@ -5,6 +5,7 @@
 mod guest;
 
 use std::collections::HashSet;
+use virtio_video_decoder::log::{self, AnswerLine, Fault, Frame, Line, Verdict};
 use virtio_video_decoder::QueueType::{Input, Output};
 use virtio_video_decoder::{ffi, wire, Decoder, Finish, Refusal, Response};
 
@@ -320,6 +321,138 @@ fn other_bytes_are_no_response() {
     }
     assert_eq!(Response::from_bytes(&[3, 2, 0, 0, 7, 0, 0, 0]), None);
     assert_eq!(Response::from_bytes(&[6, 3, 0, 0, 7, 0, 0, 0]), None);
+}
+
+/// A drain of stream 7, which is not there, and its answer.
+const DRAIN: &str = "00050000000301000007000000\n";
+const NO_STREAM: &str = "80050000000203000007000000\n";
+
+fn wrong(line: u64, fault: Fault) -> Verdict {
+    Verdict::Wrong { line, fault }
+}
+
+#[test]
+fn logs_are_checked() {
+    for (log, verdict, written) in [
+        (String::new(), Verdict::Accepted, "accepted"),
+        (format!("{DRAIN}{NO_STREAM}"), Verdict::Accepted, "accepted"),
+        (format!("{DRAIN}{DRAIN}"), wrong(2, Fault::Missing), "line 2: missing"),
+        (DRAIN.to_owned(), wrong(2, Fault::Missing), "line 2: missing"),
+        (NO_STREAM.to_owned(), wrong(1, Fault::Extra), "line 1: extra"),
+        (format!("{DRAIN}ff05\n"), wrong(2, Fault::Different), "line 2: different"),
+        (format!("{DRAIN}\n{NO_STREAM}"), wrong(2, Fault::Refused), "line 2: refused 7"),
+        (format!("{DRAIN}{NO_STREAM}0"), wrong(3, Fault::Refused), "line 3: refused 7"),
+    ] {
+        assert_eq!(log::check(log.as_bytes()), verdict, "{log}");
+        assert_eq!(verdict.to_string(), written);
+        let upper = log.to_uppercase();
+        assert_eq!(log::check(upper.as_bytes()), verdict, "{upper}");
+    }
+}
+
+#[test]
+fn verdicts_cross_as_numbers() {
+    assert_eq!(ffi::check_log(&[]), ffi::Verdict { line: 0, verdict: 0 });
+    assert_eq!(ffi::check_log(DRAIN.as_bytes()), ffi::Verdict { line: 2, verdict: 1 });
+    assert_eq!(ffi::check_log(b"\n"), ffi::Verdict { line: 1, verdict: 7 });
+    assert_eq!(std::mem::size_of::<ffi::Verdict>(), 16);
+    assert_eq!(Fault::ALL.map(Fault::number), [1, 2, 3, 7]);
+    for fault in Fault::ALL {
+        assert_eq!(Fault::from_number(fault.number()), Some(fault));
+    }
+    assert_eq!(Fault::from_number(0), None);
+}
+
+/// The questions of an example are answered as the log program answers them. With the answers in
+/// between they are accepted, and without one of them not.
+#[test]
+fn the_examples_are_replayed_and_checked() {
+    let read = |file: &str| {
+        let path = format!("{}/../../examples/{file}", env!("CARGO_MANIFEST_DIR"));
+        std::fs::read_to_string(&path).expect(&path)
+    };
+    let (mut answers, mut mixed) = (String::new(), String::new());
+    let mut decoder = Decoder::new();
+    for line in read("exchange.log").lines() {
+        let Line::Question(frame) = Line::read(line.as_bytes()) else { panic!("{line}") };
+        mixed += &format!("{line}\n");
+        for answer in frame.replay(&mut decoder) {
+            answers += &format!("{answer}\n");
+            mixed += &format!("{answer}\n");
+        }
+    }
+    assert_eq!(answers, read("exchange.out"));
+    assert_eq!(mixed, read("exchange.checked"));
+    for name in ["exchange", "rival"] {
+        let verdict = log::check(read(&format!("{name}.checked")).as_bytes());
+        assert_eq!(format!("{verdict}\n"), read(&format!("{name}.verdict")));
+    }
+}
+
+#[test]
+fn lines_are_told_apart() {
+    let command = |ticket, command: &[u8]| {
+        Line::Question(Frame::Command { ticket, command: command.to_vec() })
+    };
+    let finish =
+        Frame::Finish { stream: 7, queue_type: 2, resource: 3, flags: 4, timestamp: 1 << 63 };
+    let response = |response: &[u8]| {
+        Line::Answer(Some(AnswerLine::Response { ticket: 9, response: response.to_vec() }))
+    };
+    let longest = "0".repeat(log::MAX_LINE);
+    for (line, is) in [
+        ("0005000000", command(5, &[])),
+        ("00ABcdef01ff", command(0x01ef_cdab, &[255])),
+        (&longest, command(0, &[0; wire::MAX_CMD_LENGTH])),
+        ("01070000000200000003000000040000000000000000000080", Line::Question(finish)),
+        ("0207000000", Line::Question(Frame::Drained { stream: 7 })),
+        ("8009000000", response(&[])),
+        ("800900000001", response(&[1])),
+        ("80", Line::Answer(None)),
+        ("800900000", Line::Answer(None)),
+        ("fF07", Line::Answer(Some(AnswerLine::Refusal(7)))),
+        ("Ff0700", Line::Answer(None)),
+        ("", Line::Neither),
+        ("0", Line::Neither),
+        ("8", Line::Neither),
+        ("00050000", Line::Neither),
+        ("000500000", Line::Neither),
+        ("0107000000020000000300000004000000000000000000008", Line::Neither),
+        ("010700000002000000030000000400000000000000000000", Line::Neither),
+        ("020700000000", Line::Neither),
+        ("0207000000\r", Line::Neither),
+        ("0305000000", Line::Neither),
+    ] {
+        assert_eq!(Line::read(line.as_bytes()), is, "{line}");
+    }
+    assert_eq!(log::MAX_LINE, 8378);
+    for long in [longest + "00", "80".repeat(log::MAX_LINE / 2) + "0"] {
+        assert_eq!(Line::read(long.as_bytes()), Line::Neither);
+    }
+}
+
+#[test]
+fn frames_of_any_numbers_are_replayed() {
+    let mut decoder = ready();
+    decoder.command(3, &guest::queue(7, Input, 1, 40)).unwrap();
+    let refused = |number| [AnswerLine::Refusal(number)];
+    let report = |queue_type, flags| Frame::Finish {
+        stream: 7,
+        queue_type,
+        resource: 1,
+        flags,
+        timestamp: 0,
+    };
+    assert_eq!(Frame::Command { ticket: 1, command: vec![0; 7] }.replay(&mut decoder), refused(4));
+    assert_eq!(Frame::Drained { stream: 7 }.replay(&mut decoder), refused(5));
+    assert_eq!(report(0x102, 0).replay(&mut decoder), refused(5));
+    assert_eq!(report(0x102, 4).replay(&mut decoder), refused(6));
+    let answers = report(wire::QUEUE_TYPE_INPUT, 1).replay(&mut decoder);
+    let written = "8003000000020200000700000028000000000000000100000000000000";
+    assert_eq!(answers.iter().map(AnswerLine::to_string).collect::<Vec<_>>(), [written]);
+    assert_eq!(report(0x102, 0).stream(), Some(7));
+    assert_eq!(Frame::Command { ticket: 1, command: vec![7; 7] }.stream(), None);
+    assert_eq!(Frame::Command { ticket: 1, command: guest::drain(9) }.stream(), Some(9));
 }
 
 #[test]

@@ -1,5 +1,5 @@
-//! Independent implementations of the decoder, of its log and of the sound device, to compare the
-//! core with.
+//! Independent implementations of the decoder, of its log, of the checker of logs and of the sound
+//! device, to compare the core with, and what the comparisons share.
 //!
 //! They were written from documents 01 and 02, docs/LAYOUT.md and, for the sound device, 001, without
 //! a look at the core's definitions or code, and are to stay so.
@@ -8,6 +8,9 @@
 #![allow(dead_code)]
 
 pub mod archive;
+pub mod by_hand;
+pub mod checker;
+pub mod checker_slips;
 pub mod coverage;
 pub mod device;
 pub mod drains;
@@ -16,7 +19,9 @@ pub mod layout;
 pub mod log;
 pub mod log_slips;
 pub mod on_words;
+pub mod program;
 pub mod random;
+pub mod random_lines;
 pub mod slips;
 pub mod sound;
 pub mod sound_slips;

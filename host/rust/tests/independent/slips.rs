@@ -358,6 +358,22 @@ impl Slip {
         }
     }
 
+    /// Places, states that go on alike, the table's words and rooms do not show in a log, and a queue's
+    /// last slot hardly does.
+    pub fn shown_by_logs(self) -> bool {
+        !self.of_words()
+            && !matches!(
+                self,
+                Slip::HighestPlace
+                    | Slip::HighestSlot
+                    | Slip::OutputsSeenBelow(_)
+                    | Slip::QueuedInputsSeenBelow(_, 2..)
+                    | Slip::StreamsMoveDown
+                    | Slip::StoppedIsCreated
+                    | Slip::FinishedIsCreated
+            )
+    }
+
     /// The room is tested before the table, and again in the device's own lists; for these slips of
     /// this kind of step only the second test is made.
     pub fn leaves_room_to_device(self, kind: u32) -> bool {
