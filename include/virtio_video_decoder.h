@@ -367,7 +367,7 @@ enum virtio_video_verdict_number {
 	VIRTIO_VIDEO_VERDICT_EXTRA = 2,
 	/* an answer stands where one is due, and has other bytes */
 	VIRTIO_VIDEO_VERDICT_DIFFERENT = 3,
-	/* the line is neither a frame nor an answer: the refusal 7 of a log */
+	/* the line is neither a frame nor an answer, or over-long: the refusal 7 of a log */
 	VIRTIO_VIDEO_VERDICT_REFUSED = 7,
 };
 
@@ -443,11 +443,11 @@ virtio_video_drained(uint32_t *table, size_t words, uint32_t stream,
 		     uint8_t *answers, size_t answers_len);
 
 /*
- * Judges a log, such as another maker's device wrote: questions and answers, one a line in
+ * Checks a log, such as another maker's device wrote: questions and answers, one a line in
  * hexadecimal, each answer behind its question (docs/LOG.md). The questions are run on a device
- * of its own, fresh at the start. A log is accepted where the answers are those that the core
- * gives, in order and whatever the case of their digits; so is an empty one. Judging ends at the
- * first wrong line.
+ * of its own, fresh at the start. A log is accepted where every line is a frame or an answer and
+ * behind each frame stand the answers that the core gives, in order and whatever the case of
+ * their digits; so is an empty one. The verdict is that of the first wrong line.
  */
 struct virtio_video_verdict
 virtio_video_check_log(const uint8_t *log, size_t log_len);

@@ -1,4 +1,4 @@
--- Laws of lines that are equal, the case of digits aside, in the form that a loop over both wants; and each way through `kind_of`.
+-- Laws of lines that are equal, the case of digits aside, in the form that a loop over both wants; and the kind of a line that was decoded.
 use mathlib.Core.Path.{_≡_, sym, ap, _∙_}
 use mathlib.Core.Bool.{true, false, _&&_}
 use mathlib.Core.List.{List}
@@ -8,13 +8,13 @@ use native.Mathlib.Omega.{arith}
 use lib.Dec.{eqb}
 use lib.ListN.{length, getD, drop, length-map, drop-of-length-le}
 use lib.Seq.{drop-cons}
-use borrow.Author.Tests.{lt-ltb, le-ltb, eq-eqb, ne-eqb}
+use borrow.Author.Tests.{le-ltb, eq-eqb, ne-eqb}
 use Rattle.laws.specs.Lists.{same}
 use Rattle.laws.proofs.Same.{same-ne}
 use Rattle.line.specs.declared.Decoded.{Decoded}
 use Rattle.line.specs.Line.{lineOf, decoded}
 use Rattle.line.specs.Split.{longestLine}
-use Rattle.log_verdict.specs.Kinds.{lowerCase, inLowerCase, sameLine, beginsWith, answerKind, neitherKind, frameKind, kindOf}
+use Rattle.log_verdict.specs.Kinds.{lowerCase, inLowerCase, sameLine, beginsWith, frameKind, kindOf}
 
 -- two lines from i on
 module _ (a b : List ℕ) where
@@ -37,22 +37,8 @@ module _ (a b : List ℕ) where
     unfolding sameLine same
     same-none h = rw (drop-of-length-le a {i = i} h, drop-of-length-le b {i = i} (omega arith))
 
--- what a line is
-module _ (line : List ℕ) where
-  pub kind-over : longestLine < length line → neitherKind ≡ kindOf line
-  unfolding kindOf
-  kind-over h = rw (lt-ltb longestLine (length line) h)
-
-  module _ (short : length line ≤ longestLine) where
-    pub kind-answer : beginsWith 0x80 line ≡ true → answerKind ≡ kindOf line
-    unfolding kindOf
-    kind-answer e = rw (le-ltb longestLine (length line) short, e)
-
-    pub kind-refusal : beginsWith 0x80 line ≡ false → beginsWith 0xff line ≡ true → answerKind ≡ kindOf line
-    unfolding kindOf
-    kind-refusal e f = rw (le-ltb longestLine (length line) short, e, f)
-
-    -- what the line was decoded to
-    pub kind-frame : {d e : Decoded} (frame : List ℕ) → beginsWith 0x80 line ≡ false → beginsWith 0xff line ≡ false → decoded d frame ≡ lineOf line → d ≡ e → frameKind (decoded e frame) ≡ kindOf line
-    unfolding kindOf
-    kind-frame frame x y l e = rw (le-ltb longestLine (length line) short, x, y, ← e, l)
+-- a line that is neither over-long nor begins as an answer is what it was decoded to
+pub kind-frame : {d e : Decoded} (line frame : List ℕ) → length line ≤ longestLine → beginsWith 0x80 line ≡ false → beginsWith 0xff line ≡ false → decoded d frame ≡ lineOf line → d ≡ e
+    → frameKind (decoded e frame) ≡ kindOf line
+unfolding kindOf
+kind-frame line frame short x y l e = rw (le-ltb longestLine (length line) short, x, y, ← e, l)

@@ -88,11 +88,11 @@ checked-first L i line e r h = rw e (rw r at h)
 -- the end of the log: an answer is due, or none is, or a line was wrong
 module _ (L : Layout) (t text : List ℕ) where
   module _ {g : CheckState} {n at end last : ℕ} (is : g ≡ RightSoFar n at end) (most : last ≡ min end (length text)) where
-    pub end-due : at < last → wrongLine missing n ≡ conclude L (stateIn g t text)
+    pub end-due : at < last → wrongLine missing n ≡ conclude (stateIn g t text)
     end-due h = rw (is, ← due-most at end text (length text) most refl, due-first at last text _ h (omega arith) refl)
 
-    pub end-clear : last ≤ at → acceptedLog ≡ conclude L (stateIn g t text)
+    pub end-clear : last ≤ at → acceptedLog ≡ conclude (stateIn g t text)
     end-clear h = rw (is, ← due-most at end text (length text) most refl, due-none at last text h)
 
-  pub end-wrong : {g : CheckState} {f : Declared.Fault} {n : ℕ} → g ≡ StoppedAt f n → wrongLine (faultMeant f) n ≡ conclude L (stateIn g t text)
+  pub end-wrong : {g : CheckState} {f : Declared.Fault} {n : ℕ} → g ≡ StoppedAt f n → wrongLine (faultMeant f) n ≡ conclude (stateIn g t text)
   end-wrong e = rw e

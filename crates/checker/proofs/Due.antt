@@ -3,29 +3,13 @@ use mathlib.Core.Path.{_≡_, sym, ap, _∙_}
 use mathlib.Core.List.{List, [], _∷_}
 use Prim.Native.Nat.{ℕ, suc, _+_, _-_, _≤_, _<_, min}
 use native.Mathlib.Omega.{arith}
-use lib.Dec.{eqb}
 use lib.ListN.{length, take, drop, length-take, drop-of-length-le}
-use lib.Seq.{take-length, length-take-le, length-slice, take-take, take-add, drop-at, drop-drop}
+use lib.Seq.{slice, take-length, length-slice, take-take, drop-drop}
 use Rattle.laws.specs.Parts.{part}
-use Rattle.laws.proofs.Lists.{decide}
-use Rattle.line.specs.Split.{prefixed, linesIn, lineEnd}
-use Rattle.line.proofs.Lines.{take-most, end-within}
+use Rattle.line.specs.Split.{linesIn, lineEnd}
+use Rattle.line.proofs.Lines.{take-most, end-within, first-line}
+use Rattle.laws.proofs.Parts.{slice-part}
 use Rattle.checker.specs.Meant.{dueIn}
-
--- the first line of what is not empty, and the lines behind its byte 10
-pub first-line : (s : List ℕ) → 0 < length s → linesIn s ≡ take (lineEnd s) s ∷ linesIn (drop (suc (lineEnd s)) s)
-unfolding linesIn lineEnd
-first-line [] h = absurd (omega arith)
-first-line (b ∷ []) h = decide (eqb b 10) (λ e. rw e) (λ e. rw e)
-first-line (b ∷ x ∷ s) h = decide (eqb b 10) (λ e. rw e) (λ e. rw e (ap (prefixed b) (first-line (x ∷ s) (omega arith))))
-
--- from one place to another, as a part
-from-to : (a e : ℕ) (l : List ℕ) → a ≤ e → e ≤ length l → drop a (take e l) ≡ part a (e - a) l
-from-to a e l h k =
-    let n : e ≡ a + (e - a) = omega arith in
-    ap (λ (m : ℕ). drop a (take m l)) n
-    ∙ ap (drop a) (take-add a (e - a) l)
-    ∙ drop-at (take a l) (part a (e - a) l) a (length-take-le a l (omega arith))
 
 module _ (at end : ℕ) (text : List ℕ) where
   pub due-none : end ≤ at → dueIn at end text ≡ []
@@ -45,8 +29,8 @@ module _ (at end : ℕ) (text : List ℕ) where
     pub due-first : dueIn at end text ≡ part at (at + n - at) text ∷ dueIn (at + n + 1) end text
     unfolding dueIn
     due-first =
-        let s = drop at (take end text) in
-        let here : s ≡ part at (end - at) text = from-to at end text (omega arith) fits in
+        let s = slice at end text in
+        let here : s ≡ part at (end - at) text = slice-part at end text (omega arith) fits in
         let same : lineEnd s ≡ n = ap lineEnd here ∙ sym ends in
         let k : at + n - at ≡ n = omega arith in
         let m : at + n + 1 ≡ at + suc n = omega arith in

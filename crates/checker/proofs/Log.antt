@@ -5,7 +5,7 @@ use Rattle.log_verdict.proofs.LineKinds.{questions-are-frames}
 use Rattle.log_verdict.proofs.Right.{accepted-exactly}
 use Rattle.log_verdict.proofs.First.{named-exactly, line-within}
 use Rattle.log_verdict.proofs.Own.{own-accepted}
-use Rattle.log_verdict.proofs.InPieces.{verdict-of-calls, verdict-of-pieces}
+use Rattle.log_verdict.proofs.InPieces.{verdict-of-calls, verdict-of-pieces, stopped-stays}
 use Rattle.checker.specs.Promises.{VerdictPromises}
 
 pub verdict-promises : VerdictPromises
@@ -16,6 +16,7 @@ verdict-promises = record {
   ownAccepted = own-accepted layout;
   verdictOfPieces = verdict-of-pieces layout;
   verdictOfCalls = verdict-of-calls layout;
+  stoppedStays = stopped-stays layout;
   lineWithin = line-within layout;
   lineCases = line-cases;
 }

@@ -1,7 +1,7 @@
 -- What is promised of the verdict on a log over the tables of this device. It is proved in proofs/Log.
 use Rattle.table.specs.Blocks.{layout}
 use Rattle.log_verdict.specs.Cases.{LineCases}
-use Rattle.log_verdict.specs.Promises.{QuestionsAreFrames, AcceptedExactly, NamedExactly, OwnAccepted, VerdictOfCalls, VerdictOfPieces, LineWithin}
+use Rattle.log_verdict.specs.Promises.{QuestionsAreFrames, AcceptedExactly, NamedExactly, OwnAccepted, VerdictOfCalls, VerdictOfPieces, StoppedStays, LineWithin}
 
 pub record VerdictPromises : Type 0 where
   -- the lines that are taken for questions are the frames of the log program
@@ -16,6 +16,8 @@ pub record VerdictPromises : Type 0 where
   pub verdictOfPieces : VerdictOfPieces layout
   -- and so, for the bytes that they use, calls on any pieces do
   pub verdictOfCalls : VerdictOfCalls layout
+  -- where the check has stopped, nothing that follows changes the verdict
+  pub stoppedStays : StoppedStays layout
   -- the line that is named is one past the log's bytes at most
   pub lineWithin : LineWithin layout
   -- lines on both sides of each edge, computed

@@ -1,9 +1,11 @@
-// The checker of other makers' logs: lines out of a whole log or out of pieces, and a verdict. Its only way to the core is a line's step in `replay`.
+// The checker of other makers' logs: lines out of a whole log or out of pieces, and a verdict. But for making its table fresh, its only way to the core
+// is a line's step in `replay`.
 ghost use mathlib.Core.Path.{_≡_};
-ghost use Prim.Native.Nat.{_<_, _≤_};
+ghost use mathlib.Core.List.{List, []};
+ghost use Prim.Native.Nat.{ℕ, _<_, _≤_};
 ghost use lib.ListN.{length, take};
 ghost use Rattle.table.specs.Blocks.{layout};
-ghost use Rattle.log_verdict.specs.Checking.{conclude, logVerdict, faultNumber};
+ghost use Rattle.log_verdict.specs.Checking.{rightSoFar, conclude, logVerdict, faultNumber};
 ghost use Rattle.log_verdict.specs.InPieces.{checkPiece, checkLast};
 ghost use Rattle.checker.specs.Meant.{faultMeant, verdictMeant, numberedBy, stateIn};
 ghost use Rattle.checker.specs.Took.{Took};
@@ -20,7 +22,7 @@ pub enum Fault {
     MissingAnswer,
     ExtraAnswer,
     DifferentAnswer,
-    NoLine,
+    LineRefused,
 }
 
 // How the check stands before a line. Where nothing was wrong so far: the number of the line, and where in the text of the last question's answers
@@ -82,9 +84,9 @@ fn in_numbers(verdict: LogVerdict) -> NumberedVerdict
     }
 }
 
-// Before the first line.
-pub fn opened() -> CheckState
-    ensures { λ r. ⌜ r ≡ CheckState.RightSoFar 1 0 0 ⌝ }
+// How the check stands before the first line, on any table, with nothing due whatever the text.
+pub fn opening() -> CheckState
+    ensures { λ r. ⌜ ((t text : List ℕ) → stateIn r t text ≡ rightSoFar t [] 1) ⌝ }
 {
     CheckState::RightSoFar {
         line: 1,
@@ -115,7 +117,7 @@ pub fn take_piece(
     )
 }
 
-// The verdict where the log ends: the last line is checked too, unless it is empty.
+// The verdict where the log ends: the last line is checked too, unless it is empty. What is left in table and text has no use any more, and is free.
 pub fn last_verdict(
     table: &mut [u32],
     text: &mut [u8; 2112],
@@ -123,7 +125,7 @@ pub fn last_verdict(
     have: usize,
     state: CheckState,
 ) -> LogVerdict
-    ensures { λ r. ⌜ verdictMeant r ≡ conclude layout (checkLast layout (record { state = stateIn state (now (table .entry)) (now (text .entry)); line = take have (now (held .entry)) })) ⌝ }
+    ensures { λ r. ⌜ verdictMeant r ≡ conclude (checkLast layout (record { state = stateIn state (now (table .entry)) (now (text .entry)); line = take have (now (held .entry)) })) ⌝ }
 {
     pieces::last_verdict(table, text, held, line::at_most(have, LINE_ROOM), state)
 }
@@ -136,6 +138,6 @@ fn fault_number(fault: Fault) -> u32
         Fault::MissingAnswer => 1,
         Fault::ExtraAnswer => 2,
         Fault::DifferentAnswer => 3,
-        Fault::NoLine => NO_FRAME,
+        Fault::LineRefused => NO_FRAME,
     }
 }

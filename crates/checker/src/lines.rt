@@ -39,7 +39,7 @@ pub fn check_line(
         LineKind::QuestionKind => check_question(table, text, number, at, last, line),
         LineKind::AnswerKind => check_answer(text, number, at, last, line),
         LineKind::NeitherKind => CheckState::StoppedAt {
-            fault: Fault::NoLine,
+            fault: Fault::LineRefused,
             line: number,
         },
     }
@@ -108,7 +108,7 @@ fn next_number(n: u64) -> u64
 
 // The verdict where the log ends, whatever stands in the table.
 pub fn concluded(state: CheckState, text: &[u8]) -> LogVerdict
-    ensures { λ r. ⌜ ((t : List ℕ) → verdictMeant r ≡ conclude layout (stateIn state t (now (text .entry)))) ⌝ }
+    ensures { λ r. ⌜ ((t : List ℕ) → verdictMeant r ≡ conclude (stateIn state t (now (text .entry)))) ⌝ }
 {
     match state {
         CheckState::RightSoFar { line, at, end } => {

@@ -53,7 +53,7 @@ pub fn last_verdict(
     state: CheckState,
 ) -> LogVerdict
     requires { ⌜ have ≤ length (now held) ⌝ }
-    ensures { λ r. ⌜ verdictMeant r ≡ conclude layout (checkLast layout (record { state = stateIn state (now (table .entry)) (now (text .entry)); line = take have (now (held .entry)) })) ⌝ }
+    ensures { λ r. ⌜ verdictMeant r ≡ conclude (checkLast layout (record { state = stateIn state (now (table .entry)) (now (text .entry)); line = take have (now (held .entry)) })) ⌝ }
 {
     if have == 0 {
         return concluded(state, text);

@@ -10,11 +10,11 @@ use crate::CheckState;
 use crate::LogVerdict;
 use crate::lines::check_line;
 use crate::lines::concluded;
-use crate::opened;
+use crate::opening;
 
 // The verdict on a log, on a table that is fresh.
 pub fn verdict_from(table: &mut [u32], text: &mut [u8; 2112], log: &[u8]) -> LogVerdict
-    ensures { λ r. ⌜ verdictMeant r ≡ conclude layout (checkLinesIn64 layout (rightSoFar (now (table .entry)) [] 1) (linesIn (now (log .entry)))) ⌝ }
+    ensures { λ r. ⌜ verdictMeant r ≡ conclude (checkLinesIn64 layout (rightSoFar (now (table .entry)) [] 1) (linesIn (now (log .entry)))) ⌝ }
 {
     let checked = check_lines(table, text, log);
     concluded(checked, text)
@@ -24,7 +24,7 @@ pub fn verdict_from(table: &mut [u32], text: &mut [u8; 2112], log: &[u8]) -> Log
 fn check_lines(table: &mut [u32], text: &mut [u8; 2112], log: &[u8]) -> CheckState
     ensures { λ r. ⌜ stateIn r (now (table .exit)) (now (text .exit)) ≡ checkLinesIn64 layout (rightSoFar (now (table .entry)) [] 1) (linesIn (now (log .entry))) ⌝ }
 {
-    let mut checked = opened();
+    let mut checked = opening();
     let mut at = 0;
     while at < log.len() {
         let end = at + line::line_end(&log[at..]);

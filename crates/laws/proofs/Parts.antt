@@ -4,7 +4,7 @@ use mathlib.Core.List.{List, _++_, append-assoc, append-nil}
 use Prim.Native.Nat.{ℕ, _+_, _-_, _<_, _≤_}
 use native.Mathlib.Omega.{arith}
 use lib.ListN.{length, take, drop, getD, set, length-set, length-drop, length-replicate, getD-replicate, replicate-append-replicate}
-use lib.Seq.{drop-length, take-at, drop-at, take-append-le, drop-append-le, take-append-add, drop-append-add}
+use lib.Seq.{drop-length, length-take-le, take-add, take-at, drop-at, take-append-le, drop-append-le, take-append-add, drop-append-add, slice}
 use borrow.Author.Fill.{fill-more}
 use Rattle.laws.specs.Parts.{part, withPart, zeros}
 
@@ -81,3 +81,11 @@ part-after p l a b n h = rw (← h) (rw drop-append-add)
 -- then has.
 pub lent : (a e k : ℕ) (l p r w ys : List ℕ) → e - a ≡ k → part a k l ≡ p → withPart a k l r ≡ w → (part a (e - a) l ≡ p → ys ≡ r) → withPart a (e - a) l ys ≡ w
 lent a e k l p r w ys n h b f = rw (f (rw n h), n) b
+
+-- from one place to another, as a part
+pub slice-part : (a e : ℕ) (l : List ℕ) → a ≤ e → e ≤ length l → slice a e l ≡ part a (e - a) l
+slice-part a e l h k =
+    let n : e ≡ a + (e - a) = omega arith in
+    ap (λ (m : ℕ). slice a m l) n
+    ∙ ap (drop a) (take-add a (e - a) l)
+    ∙ drop-at (take a l) (part a (e - a) l) a (length-take-le a l (omega arith))

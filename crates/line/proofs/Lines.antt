@@ -12,7 +12,7 @@ use borrow.Author.Tests.{ne-eqb, lt-ltb, le-ltb, ltb-true, ltb-false}
 use Rattle.laws.specs.Stores.{Wrote}
 use Rattle.laws.proofs.Lists.{decide}
 use Rattle.laws.proofs.Stores.{sets-withPart}
-use Rattle.line.specs.Split.{lineRoom, kept, lineEnd, split}
+use Rattle.line.specs.Split.{prefixed, linesIn, lineRoom, kept, lineEnd, split}
 
 -- no more is read of a list than it has
 pub take-most : {r : ℕ} (n m : ℕ) (l : List ℕ) → r ≡ min n m → length l ≡ m → take r l ≡ take n l
@@ -39,6 +39,13 @@ pub end-within : (s : List ℕ) → lineEnd s ≤ length s
 unfolding lineEnd
 end-within [] = omega arith
 end-within (b ∷ s) = decide (eqb b 10) (λ e. rw e (omega arith)) (λ e. rw e (omega (arith, end-within s)))
+
+-- the first line of what is not empty, and the lines behind its byte 10
+pub first-line : (s : List ℕ) → 0 < length s → linesIn s ≡ take (lineEnd s) s ∷ linesIn (drop (suc (lineEnd s)) s)
+unfolding linesIn lineEnd
+first-line [] h = absurd (omega arith)
+first-line (b ∷ []) h = decide (eqb b 10) (λ e. rw e) (λ e. rw e)
+first-line (b ∷ x ∷ s) h = decide (eqb b 10) (λ e. rw e) (λ e. rw e (ap (prefixed b) (first-line (x ∷ s) (omega arith))))
 
 -- A run of stores that ends where the text does, or where m of it are stored
 

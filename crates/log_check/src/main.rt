@@ -81,7 +81,7 @@ fn read_all(table: &mut [u32], text: &mut [u8; 2112], held: &mut [u8; 8379]) -> 
     let mut turns = u64::MAX;
     let mut position = Position {
         have: 0,
-        state: checker::opened(),
+        state: checker::opening(),
     };
     while turns > 0 {
         let progress = read_once(table, text, held, position);
@@ -100,7 +100,7 @@ fn write_fault(fault: Fault) -> bool {
         Fault::MissingAnswer => io::write_all(STDOUT_FILENO, b"missing\n"),
         Fault::ExtraAnswer => io::write_all(STDOUT_FILENO, b"extra\n"),
         Fault::DifferentAnswer => io::write_all(STDOUT_FILENO, b"different\n"),
-        Fault::NoLine => io::write_all(STDOUT_FILENO, b"refused 7\n"),
+        Fault::LineRefused => io::write_all(STDOUT_FILENO, b"refused 7\n"),
     }
 }
 

@@ -1,4 +1,4 @@
--- The line that is named is the first wrong one. CheckState behind lines stands as they say (`Stands`): the table and what is due where nothing was wrong,
+-- The line that is named is the first wrong one. How the check stands behind lines is what they say (`Stands`): the table and what is due where nothing was wrong,
 -- else the first wrong line.
 use mathlib.Core.Path.{_≡_, refl, sym, ap, ap₂, _∙_, subst}
 use mathlib.Core.Bool.{Bool, true, cond, false≢true}
@@ -17,11 +17,10 @@ use Rattle.line.proofs.Cutting.{noTen}
 use Rattle.log_verdict.specs.Kinds.{sameLine, LineKind, questionKind, answerKind, neitherKind, kindOf, questionBy, answerBy, isQuestion, isAnswer}
 use Rattle.log_verdict.specs.Checking.{Fault, different, LogVerdict, acceptedLog, wrongLine, lineNamed, CheckState, rightSoFar, stoppedAt, answersOn, checkBy, checkLine, checkLines, opening, conclude, logVerdict}
 use Rattle.log_verdict.specs.Accepted.{tableFrom, answersBehind, Accepted}
-use Rattle.log_verdict.specs.Wrong.{WrongAt, isNeither, questionStands, endStands, noneIsDue, otherBytes, DueAfter, noFrameYet, behindFrame, Begun, FirstWrong}
-use Rattle.log_verdict.specs.OwnLog.{asLog}
+use Rattle.log_verdict.specs.Wrong.{WrongAt, isNeither, questionStands, endStands, noneIsDue, otherBytes, DueAfter, noLineYet, behindFrame, Begun, FirstWrong}
 use Rattle.log_verdict.specs.Promises.{NamedExactly, LineWithin}
 use Rattle.log_verdict.proofs.LineKinds.{line-other, line-alike, is-answer}
-use Rattle.log_verdict.proofs.Texts.{lines-back, lines-clean, lines-few, text-answers}
+use Rattle.log_verdict.proofs.Texts.{asLog, lines-back, lines-clean, lines-few, text-answers}
 use Rattle.log_verdict.proofs.Right.{stopped-all, stopped-never, wrong-never, answer-leaves, no-line, right-lines, lines-right}
 
 -- Lines one after the other
@@ -50,10 +49,10 @@ module _ (L : Layout) (t : List ℕ) (n : ℕ) where
   unfolding checkLines
   wrong-all w = wrong-stops w
 
-  wrong-concludes : {due : List (List ℕ)} (rest : List (List ℕ)) {f : Fault} → WrongAt due rest f → conclude L (checkLines L (rightSoFar t due n) rest) ≡ wrongLine f n
+  wrong-concludes : {due : List (List ℕ)} (rest : List (List ℕ)) {f : Fault} → WrongAt due rest f → conclude (checkLines L (rightSoFar t due n) rest) ≡ wrongLine f n
   unfolding checkLines
   wrong-concludes [] endStands = refl
-  wrong-concludes (line ∷ others) {f} w = ap (λ (j : CheckState). conclude L (checkLines L j others)) (wrong-stops w) ∙ ap (conclude L) (stopped-all L f n others)
+  wrong-concludes (line ∷ others) {f} w = ap (λ (j : CheckState). conclude (checkLines L j others)) (wrong-stops w) ∙ ap (conclude) (stopped-all L f n others)
 
 -- more lines behind a wrong one leave it wrong
 wrong-more : {due others : List (List ℕ)} {line : List ℕ} {f : Fault} (more : List (List ℕ)) → WrongAt due (line ∷ others) f → WrongAt due (line ∷ (others ++ more)) f
@@ -69,7 +68,7 @@ module _ (L : Layout) where
   due-asked lines line k = behindFrame lines [] line refl (ap questionBy k) refl refl
 
   due-answered : (lines : List (List ℕ)) (line d : List ℕ) (due : List (List ℕ)) → kindOf line ≡ answerKind → DueAfter L lines (d ∷ due) → DueAfter L (lines ++ (line ∷ [])) due
-  due-answered lines line d due k (noFrameYet e z) = absurd (cons≢nil z)
+  due-answered lines line d due k (noLineYet e z) = absurd (cons≢nil z)
   due-answered lines line d due k (behindFrame before given q e a g z) =
       let all = answersBehind L before q in
       let one-more : suc (length given) ≡ length (given ++ (line ∷ [])) = sym (length-append given (line ∷ []) ∙ (omega arith)) in
@@ -81,11 +80,11 @@ module _ (L : Layout) where
 
   -- all of them are answers, without byte 10
   due-answers : {lines due : List (List ℕ)} → DueAfter L lines due → allOf isAnswer due ≡ true
-  due-answers (noFrameYet e z) = rw z
+  due-answers (noLineYet e z) = rw z
   due-answers (behindFrame before given q e a g z) = rw z (all-drop isAnswer (length given) (answersBehind L before q) (text-answers L (tableFrom L (freshTable L) before) q))
 
   due-clean : {lines due : List (List ℕ)} → DueAfter L lines due → allOf noTen due ≡ true
-  due-clean (noFrameYet e z) = rw z
+  due-clean (noLineYet e z) = rw z
   due-clean (behindFrame before given q e a g z) = rw z (all-drop noTen (length given) (answersBehind L before q) (lines-clean _))
 
   -- they are the same by any reading of the lines, which have one last frame
@@ -105,9 +104,9 @@ module _ (L : Layout) where
       ∙ ap (λ (l : List ℕ). drop (length y) (answersOn L (tableFrom L (lineStep L t l .table) c) q)) (head-eq-of-cons-eq e)
 
   due-one : {lines due due′ : List (List ℕ)} → DueAfter L lines due → DueAfter L lines due′ → due ≡ due′
-  due-one (noFrameYet e z) (noFrameYet e′ z′) = z ∙ sym z′
-  due-one (noFrameYet e z) (behindFrame before given q e′ a g z′) = no-line before q given (sym e ∙ e′)
-  due-one (behindFrame before given q e a g z) (noFrameYet e′ z′) = no-line before q given (sym e′ ∙ e)
+  due-one (noLineYet e z) (noLineYet e′ z′) = z ∙ sym z′
+  due-one (noLineYet e z) (behindFrame before given q e′ a g z′) = no-line before q given (sym e ∙ e′)
+  due-one (behindFrame before given q e a g z) (noLineYet e′ z′) = no-line before q given (sym e′ ∙ e)
   due-one (behindFrame b x p e a g z) (behindFrame c y q e′ a′ g′ z′) = z ∙ last-frame (freshTable L) b c x y p q (sym e ∙ e′) a a′ g g′ ∙ sym z′
 
   -- How the check stands
@@ -196,13 +195,13 @@ module _ (L : Layout) where
 
   all-stand : (lines : List (List ℕ)) → Stands lines (checkLines L (opening L) lines)
   unfolding checkLines tableFrom
-  all-stand lines = stands-from [] lines (record { table = refl; number = refl; isDue = noFrameYet refl refl })
+  all-stand lines = stands-from [] lines (record { table = refl; number = refl; isDue = noLineYet refl refl })
 
   -- no accepted log begins with lines that the check stopped at
   begun-right : {f : Fault} {n : ℕ} {P : Type 0} (lines : List (List ℕ)) → checkLines L (opening L) lines ≡ stoppedAt f n → Begun L lines → P
   begun-right {f} {n} lines e b =
       let all = ap (checkLines L (opening L)) (b .beginning) ∙ check-append L (opening L) lines (b .others) ∙ ap (λ (j : CheckState). checkLines L j (b .others)) e in
-      stopped-never L f n (b .others) (ap (conclude L) (sym all) ∙ lines-right L (linesIn (b .log)) (b .isAccepted))
+      stopped-never L f n (b .others) (ap (conclude) (sym all) ∙ lines-right L (linesIn (b .log)) (b .isAccepted))
 
   -- Lines that were right so far begin an accepted log: the answers that are due make it one
 
@@ -227,7 +226,7 @@ module _ (L : Layout) where
           log = asLog lines;
           others = due;
           beginning = back;
-          isAccepted = subst (Accepted L) (sym back) (right-lines L lines (ap (conclude L) (came-on due ∙ taken-due t due n (due-answers d))));
+          isAccepted = subst (Accepted L) (sym back) (right-lines L lines (ap (conclude) (came-on due ∙ taken-due t due n (due-answers d))));
         }
 
     -- none begins with a wrong line behind them
@@ -244,10 +243,10 @@ module _ (L : Layout) where
   NamesFirst log acceptedLog = Unit {0}
   NamesFirst log (wrongLine f n) = FirstWrong L log f n
 
-  refused-never : (log : List ℕ) {f : Fault} {n : ℕ} → conclude L (checkLines L (opening L) (linesIn log)) ≡ wrongLine f n → Accepted L (linesIn log) → ⊥
+  refused-never : (log : List ℕ) {f : Fault} {n : ℕ} → conclude (checkLines L (opening L) (linesIn log)) ≡ wrongLine f n → Accepted L (linesIn log) → ⊥
   refused-never log e a = wrong-never (sym e ∙ lines-right L (linesIn log) a)
 
-  names-first : (log : List ℕ) (j : CheckState) → checkLines L (opening L) (linesIn log) ≡ j → Stands (linesIn log) j → NamesFirst log (conclude L j)
+  names-first : (log : List ℕ) (j : CheckState) → checkLines L (opening L) (linesIn log) ≡ j → Stands (linesIn log) j → NamesFirst log (conclude j)
   names-first log (rightSoFar t [] n) e g = tt {0}
   names-first log (rightSoFar t (d ∷ due) n) e g = record {
     before = linesIn log;
@@ -256,7 +255,7 @@ module _ (L : Layout) where
     number = g .number;
     begun = begun (linesIn log) t (d ∷ due) n e (lines-clean log) (g .isDue);
     broken = λ line others z. absurd (nil≢cons z);
-    notAccepted = refused-never log (ap (conclude L) e);
+    notAccepted = refused-never log (ap (conclude) e);
     due = d ∷ due;
     dueThere = g .isDue;
     faulty = endStands;
@@ -268,7 +267,7 @@ module _ (L : Layout) where
     number = h .number;
     begun = begun (h .before) (h .table) (h .due) n (h .came) (begun-clean log (h .before) (h .line ∷ h .others) (h .parts)) (h .isDue);
     broken = λ line others z b. broken (h .before) (h .table) (h .due) n (h .came) (h .faulty) (subst (λ (l : List ℕ). Begun L (h .before ++ (l ∷ []))) (sym (head-eq-of-cons-eq z)) b);
-    notAccepted = refused-never log (ap (conclude L) e);
+    notAccepted = refused-never log (ap (conclude) e);
     due = h .due;
     dueThere = h .isDue;
     faulty = h .faulty;
@@ -276,12 +275,12 @@ module _ (L : Layout) where
 
   -- and the first wrong line is named
   first-named : (log : List ℕ) (f : Fault) (n : ℕ) (w : FirstWrong L log f n) (j : CheckState) → checkLines L (opening L) (w .before) ≡ j → Stands (w .before) j
-      → conclude L (checkLines L (opening L) (linesIn log)) ≡ wrongLine f n
+      → conclude (checkLines L (opening L) (linesIn log)) ≡ wrongLine f n
   first-named log f n w (stoppedAt f′ m) e h = begun-right (w .before) e (w .begun)
   first-named log f n w (rightSoFar t d m) e g =
       let same : d ≡ w .due = due-one (g .isDue) (w .dueThere) in
-      ap (λ (x : List (List ℕ)). conclude L (checkLines L (opening L) x)) (w .parts)
-      ∙ ap (conclude L) (came-on (w .before) t d m e (w .rest) ∙ ap (λ (x : List (List ℕ)). checkLines L (rightSoFar t x m) (w .rest)) same)
+      ap (λ (x : List (List ℕ)). conclude (checkLines L (opening L) x)) (w .parts)
+      ∙ ap (conclude) (came-on (w .before) t d m e (w .rest) ∙ ap (λ (x : List (List ℕ)). checkLines L (rightSoFar t x m) (w .rest)) same)
       ∙ wrong-concludes L t m (w .rest) (w .faulty)
       ∙ ap (wrongLine f) (g .number ∙ sym (w .number))
 
@@ -296,7 +295,7 @@ module _ (L : Layout) where
   unfolding logVerdict
   line-within log = of (checkLines L (opening L) (linesIn log)) (all-stand (linesIn log))
     where
-      of : (j : CheckState) → Stands (linesIn log) j → lineNamed (conclude L j) ≤ suc (length log)
+      of : (j : CheckState) → Stands (linesIn log) j → lineNamed (conclude j) ≤ suc (length log)
       of (rightSoFar t [] n) g = omega arith
       of (rightSoFar t (d ∷ due) n) g = omega (arith, g .number, lines-few log)
       of (stoppedAt f n) h = omega (arith, h .number, lines-few log, ap length (h .parts), length-append (h .before) (h .line ∷ h .others))

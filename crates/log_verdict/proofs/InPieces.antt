@@ -6,6 +6,7 @@ use native.Mathlib.Omega.{arith}
 use lib.Dec.{ltb}
 use lib.ListN.{length}
 use borrow.Author.Tests.{ltb-true, ltb-false}
+use Rattle.laws.specs.Lists.{isEmpty}
 use Rattle.laws.proofs.Lists.{decide}
 use Rattle.model.specs.Tables.{Layout}
 use Rattle.line.specs.Split.{longestLine, kept, linesIn, split}
@@ -13,9 +14,9 @@ use Rattle.line.specs.Log.{lineStep}
 use Rattle.line.specs.Reading.{allUsed, allOffers, linesRead}
 use Rattle.line.proofs.Cutting.{keep-all, any-lines, all-used}
 use Rattle.log_verdict.specs.Kinds.{sameLine, LineKind, questionKind, answerKind, neitherKind, kindOf}
-use Rattle.log_verdict.specs.Checking.{missing, extra, different, noLine, LogVerdict, acceptedLog, wrongLine, lineNamed, CheckState, rightSoFar, stoppedAt, answersOn, checkBy, checkLine, checkLines, opening, conclude, logVerdict}
+use Rattle.log_verdict.specs.Checking.{missing, extra, different, lineRefused, LogVerdict, acceptedLog, wrongLine, lineNamed, CheckState, rightSoFar, stoppedAt, answersOn, checkBy, checkLine, checkLines, opening, conclude, logVerdict}
 use Rattle.log_verdict.specs.InPieces.{lastNumber, in64, verdictIn64, checkIn64, checkLinesIn64, checkPiece, checkLast, callsVerdict}
-use Rattle.log_verdict.specs.Promises.{VerdictOfCalls, VerdictOfPieces}
+use Rattle.log_verdict.specs.Promises.{VerdictOfCalls, VerdictOfPieces, StoppedStays}
 use Rattle.log_verdict.proofs.LineKinds.{kept-kind, long-kind}
 use Rattle.log_verdict.proofs.First.{line-within}
 
@@ -35,13 +36,13 @@ module _ (L : Layout) where
   line-in64 (rightSoFar t due n) line = of (kindOf line) due
     where
       of : (k : LineKind) (due : List (List ℕ)) → in64 (checkBy L k t due (min n lastNumber) line) ≡ in64 (checkBy L k t due n line)
-      of neitherKind due = ap (stoppedAt noLine) (twice-in64 n)
+      of neitherKind due = ap (stoppedAt lineRefused) (twice-in64 n)
       of questionKind [] = ap (rightSoFar (lineStep L t line .table) (answersOn L t line)) (next-in64 n)
       of questionKind (d ∷ due) = ap (stoppedAt missing) (twice-in64 n)
       of answerKind [] = ap (stoppedAt extra) (twice-in64 n)
       of answerKind (d ∷ due) = decide (sameLine line d) (λ s. rw s (ap (rightSoFar t due) (next-in64 n))) (λ s. rw s (ap (stoppedAt different) (twice-in64 n)))
 
-  conclude-in64 : (j : CheckState) → conclude L (in64 j) ≡ verdictIn64 (conclude L j)
+  conclude-in64 : (j : CheckState) → conclude (in64 j) ≡ verdictIn64 (conclude j)
   conclude-in64 (stoppedAt f n) = refl
   conclude-in64 (rightSoFar t [] n) = refl
   conclude-in64 (rightSoFar t (d ∷ due) n) = refl
@@ -68,7 +69,7 @@ module _ (L : Layout) where
   kept-all j (line ∷ lines) = ap (λ (x : CheckState). checkLinesIn64 L x (map kept lines)) (kept-checked j line) ∙ kept-all (checkIn64 L j line) lines
 
   -- the calls check the lines that are read
-  calls-check : (j : CheckState) (line : List ℕ) (ps : List (List ℕ)) → callsVerdict L (record { state = j; line = line }) ps ≡ conclude L (checkLinesIn64 L j (linesRead line ps))
+  calls-check : (j : CheckState) (line : List ℕ) (ps : List (List ℕ)) → callsVerdict L (record { state = j; line = line }) ps ≡ conclude (checkLinesIn64 L j (linesRead line ps))
   unfolding callsVerdict linesRead checkLinesIn64 checkPiece checkLast
   calls-check j [] [] = refl
   calls-check j (b ∷ l) [] = refl
@@ -83,19 +84,29 @@ module _ (L : Layout) where
   verdict-of-calls ps =
       let lines = linesIn (allUsed ps) in
       calls-check (opening L) [] ps
-      ∙ ap (λ (x : List (List ℕ)). conclude L (checkLinesIn64 L (opening L) x)) (any-lines ps)
-      ∙ ap (conclude L) (kept-all (opening L) lines ∙ all-in64 (opening L) lines)
+      ∙ ap (λ (x : List (List ℕ)). conclude (checkLinesIn64 L (opening L) x)) (any-lines ps)
+      ∙ ap (conclude) (kept-all (opening L) lines ∙ all-in64 (opening L) lines)
       ∙ conclude-in64 (checkLines L (opening L) lines)
 
   pub verdict-of-pieces : VerdictOfPieces L
   verdict-of-pieces ps = verdict-of-calls (allOffers ps) ∙ ap (λ (s : List ℕ). verdictIn64 (logVerdict L s)) (all-used ps)
+
+-- a check that has stopped stays so
+pub stopped-stays : (L : Layout) → StoppedStays L
+unfolding callsVerdict checkLast checkPiece checkIn64 checkLine
+stopped-stays L f n line [] h = decide (isEmpty line) (λ e. rw e) (λ e. rw e (ap (wrongLine f) (let same : min n lastNumber ≡ n = omega arith in same)))
+stopped-stays L f n line (p ∷ ps) h =
+    let s = split line p in
+    decide (s .ended)
+    (λ e. rw (e, (let same : min n lastNumber ≡ n = omega arith in same)) (stopped-stays L f n [] ps h))
+    (λ e. rw e (stopped-stays L f n (s .line) ps h))
 
 -- a line that 64 bits count is named as it is, and so is any of a log with fewer bytes
 same-in64 : (v : LogVerdict) → lineNamed v ≤ lastNumber → verdictIn64 v ≡ v
 same-in64 acceptedLog h = refl
 same-in64 (wrongLine f n) h = ap (wrongLine f) (omega arith)
 
-pub whole-in64 : (L : Layout) (log : List ℕ) → length log < lastNumber → conclude L (checkLinesIn64 L (opening L) (linesIn log)) ≡ logVerdict L log
+pub whole-in64 : (L : Layout) (log : List ℕ) → length log < lastNumber → conclude (checkLinesIn64 L (opening L) (linesIn log)) ≡ logVerdict L log
 unfolding logVerdict
 whole-in64 L log h =
-    ap (conclude L) (all-in64 L (opening L) (linesIn log)) ∙ conclude-in64 L (checkLines L (opening L) (linesIn log)) ∙ same-in64 (logVerdict L log) (omega (arith, line-within L log))
+    ap (conclude) (all-in64 L (opening L) (linesIn log)) ∙ conclude-in64 L (checkLines L (opening L) (linesIn log)) ∙ same-in64 (logVerdict L log) (omega (arith, line-within L log))

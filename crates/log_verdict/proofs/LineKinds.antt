@@ -1,6 +1,6 @@
 -- Laws of a line's kind: a frame is a question, an answer is no frame, and of a line what is kept decides.
 use mathlib.Core.Path.{_≡_, refl, sym, ap, _∙_}
-use mathlib.Core.Bool.{Bool, true, false, cond, not, false≢true}
+use mathlib.Core.Bool.{Bool, true, false, cond, not, or-true, false≢true}
 use mathlib.Core.List.{List, [], _∷_, cons≢nil, nil≢cons, head-eq-of-cons-eq, tail-eq-of-cons-eq}
 use Prim.Native.Nat.{ℕ, _+_, _/_, _%_, _≤_, _<_}
 use native.Mathlib.Omega.{arith}
@@ -18,7 +18,7 @@ use Rattle.line.specs.Split.{longestLine, lineRoom, kept}
 use Rattle.line.proofs.Frames.{line-bad, line-hex, kind-other}
 use Rattle.line.proofs.EveryStep.{digit-back}
 use Rattle.line.proofs.Cutting.{over-long, noTen}
-use Rattle.log_verdict.specs.Kinds.{lowerCase, inLowerCase, sameLine, beginsWith, beginsAsAnswer, LineKind, questionKind, answerKind, neitherKind, frameKind, kindOf, questionBy, answerBy, isQuestion, isAnswer}
+use Rattle.log_verdict.specs.Kinds.{lowerCase, inLowerCase, sameLine, beginsWith, beginsAsAnswer, LineKind, questionKind, answerKind, neitherKind, frameKind, kindOf, questionBy, answerBy, isAnswer}
 use Rattle.log_verdict.specs.OwnLog.{isStep, isFrame}
 use Rattle.log_verdict.specs.Promises.{QuestionsAreFrames}
 
@@ -138,6 +138,12 @@ hex-clean (h ∷ l ∷ s) e =
 pub frame-clean : (line : List ℕ) → isFrame line ≡ true → noTen line ≡ true
 frame-clean line e = decide (isHex line) (λ x. hex-clean line x) (λ x. absurd (false≢true (ap isStep (sym (line-bad line x)) ∙ e)))
 
+pub begun-first : (line : List ℕ) → beginsWith 0x80 line ≡ true → beginsAsAnswer line ≡ true
+begun-first line e = rw e
+
+pub begun-second : (line : List ℕ) → beginsWith 0xff line ≡ true → beginsAsAnswer line ≡ true
+begun-second line e = rw e (or-true (beginsWith 0x80 line))
+
 pub begun-answer : (line : List ℕ) → length line ≤ longestLine → beginsAsAnswer line ≡ true → kindOf line ≡ answerKind
 unfolding kindOf
 begun-answer line h e = rw (le-ltb longestLine (length line) h, e)
@@ -151,15 +157,7 @@ pub long-kind : (line : List ℕ) → longestLine < length line → kindOf line 
 unfolding kindOf
 long-kind line h = rw (lt-ltb longestLine (length line) h)
 
--- a line's tests by its kind
-pub is-question : (line : List ℕ) → isQuestion line ≡ true → kindOf line ≡ questionKind
-is-question line e = of (kindOf line) e
-  where
-    of : (k : LineKind) → questionBy k ≡ true → k ≡ questionKind
-    of questionKind e = refl
-    of answerKind e = absurd (false≢true e)
-    of neitherKind e = absurd (false≢true e)
-
+-- a line that passes the test
 pub is-answer : (line : List ℕ) → isAnswer line ≡ true → kindOf line ≡ answerKind
 is-answer line e = of (kindOf line) e
   where

@@ -1,20 +1,19 @@
 -- The log program's own log is accepted.
 use mathlib.Core.Path.{_≡_, refl, sym, ap, _∙_}
 use mathlib.Core.Bool.{true}
-use mathlib.Core.List.{List, [], _∷_, _++_, append-assoc, append-nil}
+use mathlib.Core.List.{List, [], _∷_, _++_, append-assoc}
 use Prim.Native.Nat.{ℕ, suc, _+_}
 use lib.ListN.{length}
 use Rattle.laws.specs.Lists.{allOf}
 use Rattle.laws.specs.Parts.{pieces}
 use Rattle.laws.proofs.Tests.{and-left, and-right}
-use Rattle.laws.proofs.Lists.{all-implied}
 use Rattle.model.specs.Tables.{Layout}
 use Rattle.line.specs.Split.{linesIn}
 use Rattle.line.specs.Log.{lineStep, linesOutput, freshTable, logOutput}
 use Rattle.line.proofs.Cutting.{noTen, lines-ended}
 use Rattle.log_verdict.specs.Kinds.{LineKind}
 use Rattle.log_verdict.specs.Checking.{acceptedLog, CheckState, rightSoFar, answersOn, checkBy, checkLine, checkLines, conclude, logVerdict}
-use Rattle.log_verdict.specs.OwnLog.{isFrame, exchangesFrom, withEnd, asLog, askedAndAnswered, ownLog, ownAnswers}
+use Rattle.log_verdict.specs.OwnLog.{isFrame, exchangesFrom, withEnd, askedAndAnswered, ownLog, ownAnswers}
 use Rattle.log_verdict.specs.Promises.{OwnAccepted}
 use Rattle.log_verdict.proofs.LineKinds.{frame-asks, frame-clean}
 use Rattle.log_verdict.proofs.Texts.{lines-back, step-text, step-lines, text-answers}
@@ -47,25 +46,20 @@ module _ (L : Layout) where
       ∙ check-append L (rightSoFar (lineStep L t line .table) due (suc n)) due more
       ∙ ap (λ (j : CheckState). checkLines L j more) (taken-due L (lineStep L t line .table) due (suc n) (text-answers L t line))
 
-  own-right : (t : List ℕ) (n : ℕ) (lines : List (List ℕ)) → allOf isFrame lines ≡ true → conclude L (checkLines L (rightSoFar t [] n) (linesIn (ownLog (exchangesFrom L t lines)))) ≡ acceptedLog
+  own-right : (t : List ℕ) (n : ℕ) (lines : List (List ℕ)) → allOf isFrame lines ≡ true → conclude (checkLines L (rightSoFar t [] n) (linesIn (ownLog (exchangesFrom L t lines)))) ≡ acceptedLog
   unfolding exchangesFrom pieces askedAndAnswered linesIn checkLines
   own-right t n [] h = refl
   own-right t n (line ∷ lines) h =
       let frame = and-left (isFrame line) _ h in
       let t′ = lineStep L t line .table in
       let more = ownLog (exchangesFrom L t′ lines) in
-      ap (λ (x : List (List ℕ)). conclude L (checkLines L (rightSoFar t [] n) x)) (own-lines t line more (frame-clean line frame))
-      ∙ ap (conclude L) (exchange-right t line n (linesIn more) frame)
+      ap (λ (x : List (List ℕ)). conclude (checkLines L (rightSoFar t [] n) x)) (own-lines t line more (frame-clean line frame))
+      ∙ ap (conclude) (exchange-right t line n (linesIn more) frame)
       ∙ own-right t′ (suc n + length (answersOn L t line)) lines (and-right (isFrame line) _ h)
 
-  frames-clean : (lines : List (List ℕ)) → allOf isFrame lines ≡ true → allOf noTen lines ≡ true
-  frames-clean lines h = all-implied (λ l. isFrame l) (λ l. noTen l) (λ l e. frame-clean l e) lines h
-
   pub own-accepted : OwnAccepted L
-  unfolding logOutput logVerdict linesIn
+  unfolding logOutput logVerdict
   own-accepted = record {
-    texts = λ lines h.
-        ap (linesOutput L (freshTable L)) (ap linesIn (sym (append-nil (asLog lines))) ∙ lines-back lines [] (frames-clean lines h) ∙ append-nil lines)
-        ∙ own-texts (freshTable L) lines;
+    texts = λ log. own-texts (freshTable L) (linesIn log);
     accepts = λ lines h. own-right (freshTable L) 1 lines h;
   }

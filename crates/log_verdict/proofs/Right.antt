@@ -12,7 +12,7 @@ use Rattle.line.specs.Split.{linesIn}
 use Rattle.line.specs.Log.{lineStep, freshTable}
 use Rattle.line.proofs.Shown.{line-refused}
 use Rattle.log_verdict.specs.Kinds.{inLowerCase, sameLine, LineKind, questionKind, answerKind, neitherKind, kindOf, questionBy, answerBy, isQuestion, isAnswer}
-use Rattle.log_verdict.specs.Checking.{LogVerdict, acceptedLog, wrongLine, Fault, CheckState, rightSoFar, stoppedAt, answersOn, checkBy, checkLine, checkLines, opening, conclude, logVerdict}
+use Rattle.log_verdict.specs.Checking.{LogVerdict, acceptedLog, wrongLine, Fault, rightSoFar, stoppedAt, answersOn, checkBy, checkLine, checkLines, opening, conclude, logVerdict}
 use Rattle.log_verdict.specs.Accepted.{answersFirst, tableFrom, Accepted}
 use Rattle.log_verdict.specs.Promises.{AcceptedExactly}
 use Rattle.log_verdict.proofs.LineKinds.{line-same, line-alike, answer-none, is-answer}
@@ -31,8 +31,8 @@ wrong-never e = let never : _≡_ {A = ℕ} 0 1 = ap verdictTold (sym e) in absu
     verdictTold acceptedLog = 0
     verdictTold (wrongLine f n) = 1
 
-pub stopped-never : (L : Layout) (f : Fault) (n : ℕ) (lines : List (List ℕ)) {P : Type 0} → conclude L (checkLines L (stoppedAt f n) lines) ≡ acceptedLog → P
-stopped-never L f n lines e = wrong-never (ap (conclude L) (sym (stopped-all L f n lines)) ∙ e)
+pub stopped-never : (L : Layout) (f : Fault) (n : ℕ) (lines : List (List ℕ)) {P : Type 0} → conclude (checkLines L (stoppedAt f n) lines) ≡ acceptedLog → P
+stopped-never L f n lines e = wrong-never (ap (conclude) (sym (stopped-all L f n lines)) ∙ e)
 
 -- an answer leaves the table
 pub answer-leaves : (L : Layout) (t line : List ℕ) → kindOf line ≡ answerKind → lineStep L t line .table ≡ t
@@ -147,14 +147,14 @@ module _ (L : Layout) where
 
   -- Both directions, line by line
 
-  accepted-right : (t : List ℕ) (due : List (List ℕ)) (n : ℕ) (lines : List (List ℕ)) → conclude L (checkLines L (rightSoFar t due n) lines) ≡ acceptedLog → Rightly t due lines
+  accepted-right : (t : List ℕ) (due : List (List ℕ)) (n : ℕ) (lines : List (List ℕ)) → conclude (checkLines L (rightSoFar t due n) lines) ≡ acceptedLog → Rightly t due lines
   unfolding checkLines checkLine
   accepted-right t [] n [] e = none-right t
   accepted-right t (d ∷ due) n [] e = wrong-never e
   accepted-right t due n (line ∷ lines) e = of (λ u rest. accepted-right u rest (suc n) lines) (kindOf line) refl due e
     where
-      of : ((u : List ℕ) (rest : List (List ℕ)) → conclude L (checkLines L (rightSoFar u rest (suc n)) lines) ≡ acceptedLog → Rightly u rest lines)
-          → (k : LineKind) → kindOf line ≡ k → (due : List (List ℕ)) → conclude L (checkLines L (checkBy L k t due n line) lines) ≡ acceptedLog → Rightly t due (line ∷ lines)
+      of : ((u : List ℕ) (rest : List (List ℕ)) → conclude (checkLines L (rightSoFar u rest (suc n)) lines) ≡ acceptedLog → Rightly u rest lines)
+          → (k : LineKind) → kindOf line ≡ k → (due : List (List ℕ)) → conclude (checkLines L (checkBy L k t due n line) lines) ≡ acceptedLog → Rightly t due (line ∷ lines)
       of ih neitherKind k due e = stopped-never L _ n lines e
       of ih questionKind k [] e = question-more t line lines k (ih (lineStep L t line .table) (answersOn L t line) e)
       of ih questionKind k (d ∷ due) e = stopped-never L _ n lines e
@@ -164,14 +164,14 @@ module _ (L : Layout) where
           (λ s. answer-more t line lines k d due (line-same line d s) (ih t due (rw s at e)))
           (λ s. stopped-never L _ n lines (rw s at e))
 
-  right-accepted : (t : List ℕ) (due : List (List ℕ)) (n : ℕ) (lines : List (List ℕ)) → Rightly t due lines → conclude L (checkLines L (rightSoFar t due n) lines) ≡ acceptedLog
+  right-accepted : (t : List ℕ) (due : List (List ℕ)) (n : ℕ) (lines : List (List ℕ)) → Rightly t due lines → conclude (checkLines L (rightSoFar t due n) lines) ≡ acceptedLog
   unfolding checkLines checkLine
   right-accepted t [] n [] r = refl
   right-accepted t (d ∷ due) n [] r = absurd (nil≢cons (r .first [] [] refl refl refl))
   right-accepted t due n (line ∷ lines) r = of (λ u rest. right-accepted u rest (suc n) lines) (kindOf line) refl due r
     where
-      of : ((u : List ℕ) (rest : List (List ℕ)) → Rightly u rest lines → conclude L (checkLines L (rightSoFar u rest (suc n)) lines) ≡ acceptedLog)
-          → (k : LineKind) → kindOf line ≡ k → (due : List (List ℕ)) → Rightly t due (line ∷ lines) → conclude L (checkLines L (checkBy L k t due n line) lines) ≡ acceptedLog
+      of : ((u : List ℕ) (rest : List (List ℕ)) → Rightly u rest lines → conclude (checkLines L (rightSoFar u rest (suc n)) lines) ≡ acceptedLog)
+          → (k : LineKind) → kindOf line ≡ k → (due : List (List ℕ)) → Rightly t due (line ∷ lines) → conclude (checkLines L (checkBy L k t due n line) lines) ≡ acceptedLog
       of ih neitherKind k due r = absurd (false≢true (sym (ap (λ x. questionBy x || answerBy x) k) ∙ and-left (isQuestion line || isAnswer line) _ (r .allKnown)))
       of ih questionKind k [] r = ih (lineStep L t line .table) (answersOn L t line) (question-less t line lines k r)
       of ih questionKind k (d ∷ due) r = absurd (cons≢nil (question-due t line lines k (d ∷ due) r))
@@ -191,12 +191,12 @@ module _ (L : Layout) where
       let s = subst (Rightly (freshTable L) []) e r in
       decide (isQuestion b) (λ q. rw q) (λ q. absurd (no-answer-first s (simp q at (and-left (isQuestion b || isAnswer b) _ (s .allKnown)))))
 
-  pub right-lines : (lines : List (List ℕ)) → conclude L (checkLines L (opening L) lines) ≡ acceptedLog → Accepted L lines
+  pub right-lines : (lines : List (List ℕ)) → conclude (checkLines L (opening L) lines) ≡ acceptedLog → Accepted L lines
   right-lines lines e =
       let r = accepted-right (freshTable L) [] 1 lines e in
       record { allKnown = r .allKnown; framesFirst = frames-first lines r; exact = r .exact }
 
-  pub lines-right : (lines : List (List ℕ)) → Accepted L lines → conclude L (checkLines L (opening L) lines) ≡ acceptedLog
+  pub lines-right : (lines : List (List ℕ)) → Accepted L lines → conclude (checkLines L (opening L) lines) ≡ acceptedLog
   lines-right lines a =
       right-accepted (freshTable L) [] 1 lines (record { allKnown = a .allKnown; first = first; exact = a .exact })
     where

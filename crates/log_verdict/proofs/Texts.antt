@@ -1,6 +1,6 @@
 -- Lines as a log, and the texts that the log program writes: whole lines, each of them an answer.
 use mathlib.Core.Path.{_≡_, refl, sym, ap, _∙_, subst}
-use mathlib.Core.Bool.{Bool, true, not, or-true}
+use mathlib.Core.Bool.{Bool, true, not}
 use mathlib.Core.List.{List, [], _∷_, _++_, append-assoc, append-nil}
 use Prim.Native.Nat.{ℕ, zero, suc, _+_, _/_, _%_, _≤_}
 use native.Mathlib.Omega.{arith}
@@ -27,10 +27,14 @@ use Rattle.line.proofs.Digits.{length-text}
 use Rattle.line.proofs.Cutting.{noTen, lines-ended}
 use Rattle.log_verdict.specs.Kinds.{beginsWith, beginsAsAnswer, answerBy, isAnswer}
 use Rattle.log_verdict.specs.Checking.{answersOn}
-use Rattle.log_verdict.specs.OwnLog.{withEnd, asLog}
-use Rattle.log_verdict.proofs.LineKinds.{line-alike, begun-answer}
+use Rattle.log_verdict.specs.OwnLog.{withEnd}
+use Rattle.log_verdict.proofs.LineKinds.{line-alike, begun-first, begun-second, begun-answer}
 
 -- The lines of a log
+
+-- lines, each with its byte 10
+abbrev pub asLog : List (List ℕ) → List ℕ
+asLog lines = pieces withEnd lines
 
 -- lines without byte 10 are read back
 pub lines-back : (lines : List (List ℕ)) (s : List ℕ) → allOf noTen lines ≡ true → linesIn (asLog lines ++ s) ≡ lines ++ linesIn s
@@ -85,7 +89,7 @@ unfolding pieces
 no-text = record { inLines = []; asText = refl; clean = refl; allAnswers = refl }
 
 -- the digits of a byte that an answer begins with, and of what follows, with byte 10, and a text
-module _ (k : ℕ) (s : List ℕ) (few : length s ≤ 2000) (first : beginsAsAnswer (hexText (k ∷ s)) ≡ true) where
+module _ (k : ℕ) (s : List ℕ) (few : length s ≤ answerRoom + 4) (first : beginsAsAnswer (hexText (k ∷ s)) ≡ true) where
   is-short : length (hexText (k ∷ s)) ≤ longestLine
   is-short = omega (arith, length-text (k ∷ s))
 
@@ -103,10 +107,10 @@ unfolding beginsWith pieces hexPair
 begins-text k s = line-alike (hexPair k) (hexPair k) refl
 
 answer-first : (s : List ℕ) → beginsAsAnswer (hexText (0x80 ∷ s)) ≡ true
-answer-first s = rw (begins-text 0x80 s)
+answer-first s = begun-first (hexText (0x80 ∷ s)) (begins-text 0x80 s)
 
 refusal-first : (s : List ℕ) → beginsAsAnswer (hexText (0xff ∷ s)) ≡ true
-refusal-first s = rw (begins-text 0xff s) (or-true (beginsWith 0x80 (hexText (0xff ∷ s))))
+refusal-first s = begun-second (hexText (0xff ∷ s)) (begins-text 0xff s)
 
 refusal-text : (k : ℕ) → AnswerText (refusalLine k)
 unfolding refusalLine withEnd

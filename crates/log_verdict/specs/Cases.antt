@@ -1,7 +1,7 @@
 -- Lines on both sides of each edge of their kinds and of the case of digits, in ASCII. What whole logs give is run.
 use mathlib.Core.Path.{_≡_}
 use mathlib.Core.Bool.{Bool, true, false}
-use mathlib.Core.List.{List, [], _∷_, _++_, map}
+use mathlib.Core.List.{List, [], _∷_, map}
 use Prim.Native.Nat.{ℕ}
 use lib.ListN.{replicate}
 use Rattle.log_verdict.specs.Kinds.{sameLine, LineKind, questionKind, answerKind, neitherKind, kindOf}

@@ -16,11 +16,11 @@ pub data Fault : Type 0 where
   -- "an answer stands with other bytes"
   different : Fault
   -- neither a frame nor an answer, or over-long: "refused with 7"
-  noLine : Fault
+  lineRefused : Fault
 
 pub data LogVerdict : Type 0 where
   acceptedLog : LogVerdict
-  -- the first wrong line, in64 from 1; the end is one past the last
+  -- the first wrong line, counted from 1; the end is one past the last
   wrongLine : Fault → ℕ → LogVerdict
 
 -- The numbers under which a host meets a verdict: of a line that is refused it is the refusal's own
@@ -29,7 +29,7 @@ abbrev pub faultNumber : Fault → ℕ
 faultNumber missing = 1
 faultNumber extra = 2
 faultNumber different = 3
-faultNumber noLine = 7
+faultNumber lineRefused = 7
 
 abbrev pub verdictNumber : LogVerdict → ℕ
 verdictNumber acceptedLog = 0
@@ -47,6 +47,12 @@ pub data CheckState : Type 0 where
   rightSoFar : List ℕ → List (List ℕ) → ℕ → CheckState
   stoppedAt : Fault → ℕ → CheckState
 
+-- the end of the log
+abbrev pub conclude : CheckState → LogVerdict
+conclude (rightSoFar t [] n) = acceptedLog
+conclude (rightSoFar t (d ∷ due) n) = wrongLine missing n
+conclude (stoppedAt f n) = wrongLine f n
+
 module _ (L : Layout) where
   -- the lines that the log program writes for a question on a table
   abbrev pub answersOn : List ℕ → List ℕ → List (List ℕ)
@@ -54,7 +60,7 @@ module _ (L : Layout) where
 
   -- a line, by its kind and by what is due
   abbrev pub checkBy : LineKind → List ℕ → List (List ℕ) → ℕ → List ℕ → CheckState
-  checkBy neitherKind t due n line = stoppedAt noLine n
+  checkBy neitherKind t due n line = stoppedAt lineRefused n
   checkBy questionKind t [] n line = rightSoFar (lineStep L t line .table) (answersOn t line) (suc n)
   checkBy questionKind t (d ∷ due) n line = stoppedAt missing n
   checkBy answerKind t [] n line = stoppedAt extra n
@@ -71,12 +77,6 @@ module _ (L : Layout) where
   -- a fresh table, nothing due, the first line
   abbrev pub opening : CheckState
   opening = rightSoFar (freshTable L) [] 1
-
-  -- the end of the log
-  abbrev pub conclude : CheckState → LogVerdict
-  conclude (rightSoFar t [] n) = acceptedLog
-  conclude (rightSoFar t (d ∷ due) n) = wrongLine missing n
-  conclude (stoppedAt f n) = wrongLine f n
 
   unfoldable pub logVerdict : List ℕ → LogVerdict
   logVerdict log = conclude (checkLines opening (linesIn log))

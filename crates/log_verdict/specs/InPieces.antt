@@ -50,5 +50,5 @@ module _ (L : Layout) where
 
   -- the verdict of calls on these pieces, one after the other, and then the end of the log
   unfoldable pub callsVerdict : CheckReader → List (List ℕ) → LogVerdict
-  callsVerdict c [] = conclude L (checkLast c)
+  callsVerdict c [] = conclude (checkLast c)
   callsVerdict c (p ∷ ps) = callsVerdict (checkPiece c p) ps

@@ -27,12 +27,9 @@ module _ (L : Layout) where
   abbrev pub exchanges : List (List ℕ) → List Exchange
   exchanges lines = exchangesFrom (freshTable L) lines
 
--- lines, each with its byte 10
+-- a line with its byte 10
 unfoldable pub withEnd : List ℕ → List ℕ
 withEnd line = line ++ 10 ∷ []
-
-abbrev pub asLog : List (List ℕ) → List ℕ
-asLog lines = pieces withEnd lines
 
 -- each question with its byte 10, and behind it what was written for it
 unfoldable pub askedAndAnswered : Exchange → List ℕ

@@ -8,12 +8,12 @@ use Rattle.laws.specs.Lists.{allOf}
 use Rattle.model.specs.Tables.{Layout}
 use Rattle.line.specs.Split.{linesIn}
 use Rattle.log_verdict.specs.Kinds.{questionKind, answerKind, neitherKind, kindOf, isQuestion, isAnswer, inLowerCase}
-use Rattle.log_verdict.specs.Checking.{Fault, missing, extra, different, noLine}
+use Rattle.log_verdict.specs.Checking.{Fault, missing, extra, different, lineRefused}
 use Rattle.log_verdict.specs.Accepted.{answersBehind, Accepted}
 
 -- what is wrong where these answers are due and these lines stand, the wrong one first; at the end of the log none does
 pub data WrongAt : List (List ℕ) → List (List ℕ) → Fault → Type 0 where
-  isNeither : {due : List (List ℕ)} {line : List ℕ} {others : List (List ℕ)} → kindOf line ≡ neitherKind → WrongAt due (line ∷ others) noLine
+  isNeither : {due : List (List ℕ)} {line : List ℕ} {others : List (List ℕ)} → kindOf line ≡ neitherKind → WrongAt due (line ∷ others) lineRefused
   questionStands : {d : List ℕ} {due : List (List ℕ)} {line : List ℕ} {others : List (List ℕ)} → kindOf line ≡ questionKind → WrongAt (d ∷ due) (line ∷ others) missing
   endStands : {d : List ℕ} {due : List (List ℕ)} → WrongAt (d ∷ due) [] missing
   noneIsDue : {line : List ℕ} {others : List (List ℕ)} → kindOf line ≡ answerKind → WrongAt [] (line ∷ others) extra
@@ -21,9 +21,9 @@ pub data WrongAt : List (List ℕ) → List (List ℕ) → Fault → Type 0 wher
       → WrongAt (d ∷ due) (line ∷ others) different
 
 module _ (L : Layout) where
-  -- the answers that are due behind lines: none where no frame stands; else those to the last frame, but for as many as stand behind it
+  -- the answers that are due behind lines: none before the first line; else those to the last frame, but for as many as stand behind it
   pub data DueAfter (lines due : List (List ℕ)) : Type 0 where
-    noFrameYet : lines ≡ [] → due ≡ [] → DueAfter lines due
+    noLineYet : lines ≡ [] → due ≡ [] → DueAfter lines due
     behindFrame : (before given : List (List ℕ)) (line : List ℕ) → lines ≡ before ++ (line ∷ given) → isQuestion line ≡ true → allOf isAnswer given ≡ true
         → due ≡ drop (length given) (answersBehind L before line) → DueAfter lines due
 

@@ -1,5 +1,4 @@
 // The log as it is run: lines out of what is read in pieces, and a step for each. A program over it only reads, calls and writes.
-ghost use mathlib.Core.Path.{_≡_};
 ghost use Prim.Native.Nat.{_<_, _≤_};
 ghost use lib.ListN.{length, take};
 ghost use Rattle.table.specs.Blocks.{layout};

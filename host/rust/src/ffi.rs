@@ -154,7 +154,7 @@ pub fn drained(table: &mut [u32], stream: u32, answers: &mut [u8]) -> Outcome {
     }
 }
 
-/// Judges a log that holds questions and answers, on a device of its own.
+/// Checks a log that holds questions and answers, on a device of its own.
 pub fn check_log(log: &[u8]) -> Verdict {
     // SAFETY: pointer and length are those of one slice that is lent for the call.
     unsafe { virtio_video_check_log(log.as_ptr(), log.len()) }

@@ -2,7 +2,8 @@
 //!
 //! A host hands a [`Decoder`] the commands that its guest sends and the reports of its decoding back
 //! end, and passes the answers on to the guest. The core behind it is an archive whose functions are
-//! proved against their definition; this package only lends it memory. It has no dependencies.
+//! proved against their definition; this package lends it memory, and reads what it answers. It has no
+//! dependencies.
 //!
 //! The module [`log`] is about logs of such commands, reports and answers, and checks those of other
 //! makers' devices. Beside the decoder stands a small virtio sound device, output only, from an archive of

@@ -57,8 +57,8 @@ const DRAINED_LENGTH: usize = 5;
 /// It is written as the program `log_check` writes it.
 #[derive(Clone, Copy, Debug, PartialEq, Eq, Hash)]
 pub enum Verdict {
-    /// Every line is a frame or an answer, and behind each frame stand exactly the answers that the
-    /// core gives, in order.
+    /// Every line is a frame or an answer, none of these before the first frame, and behind each frame
+    /// stand exactly the answers that the core gives, in order.
     Accepted,
     /// It is not so, and this is the first wrong line.
     Wrong {
@@ -88,7 +88,7 @@ pub enum Fault {
     Extra = 2,
     /// An answer stands where one is due, and has other bytes.
     Different = 3,
-    /// The line is neither a frame nor an answer, which is refusal 7.
+    /// The line is neither a frame nor an answer, or has more than [`MAX_LINE`] bytes: refusal 7.
     Refused = 7,
 }
 
@@ -118,9 +118,9 @@ impl fmt::Display for Fault {
     }
 }
 
-/// Judges a log that holds questions and answers, any bytes.
+/// Checks a log that holds questions and answers, any bytes.
 ///
-/// The questions are run on a device of its own, which is fresh at the start. Judging ends at the first
+/// The questions are run on a device of its own, which is fresh at the start. The verdict is that of the first
 /// wrong line. Upper and lower case of digits are the same. An empty log is accepted.
 pub fn check(log: &[u8]) -> Verdict {
     let ffi::Verdict { line, verdict } = ffi::check_log(log);

@@ -33,7 +33,7 @@ returns c =
     let start = after-fresh .before .before .before in
     let log = now (start .args .log) in
     after-verdict-from .verdict-from .ensures
-    ∙ ap (λ (f : Freshened). conclude layout (checkLinesIn64 layout (rightSoFar (f .table) [] 1) (linesIn log))) (after-fresh .fresh .ensures)
+    ∙ ap (λ (f : Freshened). conclude (checkLinesIn64 layout (rightSoFar (f .table) [] 1) (linesIn log))) (after-fresh .fresh .ensures)
     ∙ whole-in64 layout log (omega arith)
 
 pub check-log-spec : {M : Type 1} → statement M

@@ -27,7 +27,7 @@ returns c =
     let after-last-verdict = c .before .before in let after-at-most = after-last-verdict .before in let start = after-at-most .before .before .before .before .before in
     let a = start .args in
     after-last-verdict .last-verdict .ensures
-    ∙ ap (λ (l : List ℕ). conclude layout (checkLast layout (record { state = stateIn (a .state) (now (a .table)) (now (a .text)); line = l })))
+    ∙ ap (λ (l : List ℕ). conclude (checkLast layout (record { state = stateIn (a .state) (now (a .table)) (now (a .text)); line = l })))
     (take-most (a .have) lineRoom (now (a .held)) (after-at-most .at-most .ensures) (search needs))
 
 pub last-verdict-spec : {M : Type 1} → statement M

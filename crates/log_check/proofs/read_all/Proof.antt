@@ -11,8 +11,8 @@ Inv-loop table₀ text₀ held₀ turns₀ position₀ table text held turns pos
 abbrev μ-loop : tie.MeasureT-loop
 μ-loop table₀ text₀ held₀ turns₀ position₀ table text held turns position = turns
 
-opened-requires : tie.Need-opened-requires Inv-loop μ-loop
-opened-requires c κs = search needs
+opening-requires : tie.Need-opening-requires Inv-loop μ-loop
+opening-requires c κs = search needs
 
 loop-holds : tie.Need-loop-holds Inv-loop μ-loop
 loop-holds c = search needs
@@ -50,7 +50,7 @@ read-all-spec =
     (tie.spec
     Inv-loop
     μ-loop
-    opened-requires
+    opening-requires
     loop-holds
     read-once-requires
     enum-known-progress

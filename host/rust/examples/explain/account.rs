@@ -112,7 +112,7 @@ impl<W: Write> Account<'_, W> {
     fn answer(&mut self, number: u64, line: &[u8], answer: Option<AnswerLine>) -> io::Result<()> {
         let due = self.step.as_mut().and_then(|step| step.due.pop_front());
         let words = match answer {
-            None => format!("begins as an answer, but is none: {}", text::escaped(line)),
+            None => format!("an answer that cannot be read: {}", text::escaped(line)),
             Some(answer) => self.take(&answer, due.as_ref()),
         };
         writeln!(self.out, "{number:>6}      {words}")?;

@@ -98,7 +98,7 @@ fn error_in_words(code: u32, command: Option<u32>) -> &'static str {
 }
 
 /// What a refusal means, as an answer to this question; to none it is a line that is no frame.
-pub fn refusal_in_words(number: u8, question: Option<&Frame>) -> String {
+fn refusal_in_words(number: u8, question: Option<&Frame>) -> String {
     const BOTH: u32 = wire::BUFFER_FLAG_ERR | wire::BUFFER_FLAG_EOS;
     let meaning = match (number, question) {
         (4, Some(Frame::Command { .. })) => "the command has no whole header of 8 bytes",

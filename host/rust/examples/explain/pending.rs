@@ -42,7 +42,7 @@ impl Wanted {
 /// A command of the log.
 #[derive(Clone, Copy, Debug, PartialEq, Eq)]
 pub struct Asked {
-    pub line: u64,
+    line: u64,
     ticket: u32,
     stream: u32,
     wanted: Wanted,

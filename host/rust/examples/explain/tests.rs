@@ -240,13 +240,13 @@ fn answers_of_other_devices_are_told() {
     for (answer, words) in [
         ("8009000000000200000700000001", "to ticket 9: type 0x0200 in 9 bytes, which the core"),
         ("8009000000", "to ticket 9: no whole response, 0 bytes"),
-        ("80090000", "begins as an answer, but is none: 80090000"),
-        ("80 \u{7}", "begins as an answer, but is none: 80 \\x07"),
+        ("80090000", "an answer that cannot be read: 80090000"),
+        ("80 \u{7}", "an answer that cannot be read: 80 \\x07"),
         ("ff01", "refused, 1: the table has fewer than 4160 words"),
         ("FF07", "refused, 7: the line is no frame"),
         ("ff63", "refused, 99: no refusal has that number"),
         ("ff06", "refused, 6: no refusal of such a step"),
-        ("ff0505", "begins as an answer, but is none: ff0505"),
+        ("ff0505", "an answer that cannot be read: ff0505"),
         ("80050000000503000007000000", "to ticket 5: error 0x0305, stream 7: no control"),
     ] {
         let said = said_of(format!("{drain}{answer}\n").as_bytes(), 2);

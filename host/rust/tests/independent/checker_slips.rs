@@ -78,18 +78,18 @@ pub enum CheckSlip {
     SilentNotExecuted,
 
     // Of the answers due.
-    /// A step refused with this number owes nothing.
-    RefusedOwesNothing(u8),
-    /// A step without answers owes this line.
-    SilentOwes(&'static str),
-    /// A step owes its first answer only.
-    FirstOwed,
-    /// A step owes its last answer only.
-    LastOwed,
-    OwedReversed,
-    OwedSorted,
+    /// A step refused with this number has nothing due.
+    NothingDueToRefused(u8),
+    /// A step without answers has this line due.
+    DueToSilent(&'static str),
+    /// Of a step only the first answer is due.
+    OnlyFirstDue,
+    /// Of a step only the last answer is due.
+    OnlyLastDue,
+    DueReversed,
+    DueSorted,
     /// The answers of a step are due in one line.
-    OwedJoined,
+    DueJoined,
     /// Any of the answers due may come next.
     OrderIgnored,
 
@@ -139,9 +139,9 @@ pub enum CheckSlip {
     QuestionsCounted,
     /// Only answers are counted.
     AnswersCounted,
-    /// Judging goes on, and the last wrong line is named.
+    /// The check goes on, and the last wrong line is named.
     LastWrong,
-    /// Judging goes on, and the first that is wrong so is named.
+    /// The check goes on, and the first that is wrong so is named.
     Outranks(Fault),
     /// An empty log is wrong.
     EmptyLog(Fault),
@@ -243,16 +243,16 @@ const NAMED: &[CheckSlip] = &[
     FreshAfterRefusal,
     ExecutedTwice,
     SilentNotExecuted,
-    RefusedOwesNothing(b'4'),
-    RefusedOwesNothing(b'5'),
-    RefusedOwesNothing(b'6'),
-    SilentOwes("ff00"),
-    SilentOwes("80"),
-    FirstOwed,
-    LastOwed,
-    OwedReversed,
-    OwedSorted,
-    OwedJoined,
+    NothingDueToRefused(b'4'),
+    NothingDueToRefused(b'5'),
+    NothingDueToRefused(b'6'),
+    DueToSilent("ff00"),
+    DueToSilent("80"),
+    OnlyFirstDue,
+    OnlyLastDue,
+    DueReversed,
+    DueSorted,
+    DueJoined,
     OrderIgnored,
     CaseMatters,
     CaseMattersBehind(b'8'),
@@ -472,9 +472,9 @@ struct WrongChecker {
     number: usize,
     questions: usize,
     answers: usize,
-    /// The line of the last question, all that it owes, and how much of that stood there.
+    /// The line of the last question, all that is due to it, and how much of that stood there.
     asked: Option<usize>,
-    owed: Vec<Vec<u8>>,
+    due: Vec<Vec<u8>>,
     had: usize,
     /// Each wrong line as the slip names it.
     wrong: Vec<(usize, Fault)>,
@@ -487,21 +487,21 @@ impl WrongChecker {
             Sort::Neither => self.wrong(Refused, Some(line)),
             Sort::Question => {
                 self.questions += 1;
-                if self.had < self.owed.len() {
+                if self.had < self.due.len() {
                     self.wrong(Missing, Some(line));
                 }
-                self.owed = self.owed_for(line);
+                self.due = self.due_for(line);
                 self.had = 0;
                 self.asked = Some(self.number);
             }
             Sort::Answer => {
                 self.answers += 1;
-                let due = self.had..self.owed.len();
+                let due = self.had..self.due.len();
                 let taken = due.clone().find(|&due| self.same(line, due));
                 match taken {
                     _ if due.is_empty() => self.wrong(Extra, Some(line)),
                     Some(any) if any == due.start || self.slip == Some(OrderIgnored) => {
-                        self.owed.swap(due.start, any);
+                        self.due.swap(due.start, any);
                         self.had += 1;
                     }
                     _ => {
@@ -515,7 +515,7 @@ impl WrongChecker {
 
     fn end(&mut self) {
         self.number += 1;
-        if self.had < self.owed.len() {
+        if self.had < self.due.len() {
             self.wrong(Missing, None);
         }
     }
@@ -558,9 +558,9 @@ impl WrongChecker {
 
     /// Whether the line, or the end, stands at such a place.
     fn stands(&self, place: Place, line: Option<&[u8]>) -> bool {
-        let due = self.owed.get(self.had);
+        let due = self.due.get(self.had);
         let text = line.unwrap_or_default();
-        let refused = self.owed.first().is_some_and(|owed| owed.starts_with(b"ff"));
+        let refused = self.due.first().is_some_and(|due| due.starts_with(b"ff"));
         let answer = |line: &[u8]| line.len() >= 2 && sort(&line[..2]) == Sort::Answer;
         match place {
             Anywhere => true,
@@ -570,8 +570,8 @@ impl WrongChecker {
             AtEnd => line.is_none(),
             BeforeEnd => line.is_some(),
             BeforeQuestions => self.asked.is_none(),
-            BehindSilence => self.asked.is_some() && self.owed.is_empty(),
-            BehindAnswers => due.is_none() && !self.owed.is_empty() && !refused,
+            BehindSilence => self.asked.is_some() && self.due.is_empty(),
+            BehindAnswers => due.is_none() && !self.due.is_empty() && !refused,
             BehindRefusal => due.is_none() && refused,
             FirstDue => due.is_some() && self.had == 0,
             LaterDue => due.is_some() && self.had > 0,
@@ -612,34 +612,34 @@ impl WrongChecker {
     }
 
     /// The answers that are due for a question.
-    fn owed_for(&mut self, question: &[u8]) -> Vec<Vec<u8>> {
+    fn due_for(&mut self, question: &[u8]) -> Vec<Vec<u8>> {
         let before = self.definition.device.clone();
         match self.slip {
             Some(FreshEachQuestion) => self.definition = Log::default(),
             Some(ExecutedTwice) => drop(answers(&mut self.definition, question)),
             _ => {}
         }
-        let mut owed = answers(&mut self.definition, question);
-        let refused = owed.first().is_some_and(|owed| owed.starts_with(b"ff"));
+        let mut due = answers(&mut self.definition, question);
+        let refused = due.first().is_some_and(|due| due.starts_with(b"ff"));
         match self.slip {
             Some(FreshAfterRefusal) if refused => self.definition = Log::default(),
-            Some(SilentNotExecuted) if owed.is_empty() => self.definition.device = before,
-            Some(RefusedOwesNothing(number)) if refused && owed[0][3] == number => owed.clear(),
-            Some(SilentOwes(line)) if owed.is_empty() => owed.push(line.into()),
-            Some(FirstOwed) => owed.truncate(1),
-            Some(LastOwed) => drop(owed.drain(..owed.len().saturating_sub(1))),
-            Some(OwedReversed) => owed.reverse(),
-            Some(OwedSorted) => owed.sort(),
-            Some(OwedJoined) if owed.len() > 1 => owed = vec![owed.concat()],
+            Some(SilentNotExecuted) if due.is_empty() => self.definition.device = before,
+            Some(NothingDueToRefused(number)) if refused && due[0][3] == number => due.clear(),
+            Some(DueToSilent(line)) if due.is_empty() => due.push(line.into()),
+            Some(OnlyFirstDue) => due.truncate(1),
+            Some(OnlyLastDue) => drop(due.drain(..due.len().saturating_sub(1))),
+            Some(DueReversed) => due.reverse(),
+            Some(DueSorted) => due.sort(),
+            Some(DueJoined) if due.len() > 1 => due = vec![due.concat()],
             _ => {}
         }
-        owed
+        due
     }
 
-    /// Whether the line passes for this one of the answers owed.
+    /// Whether the line passes for this one of the answers due.
     fn same(&self, line: &[u8], due: usize) -> bool {
         let later = due > 0;
-        let due = &self.owed[due];
+        let due = &self.due[due];
         match self.slip {
             Some(FirstCompared) if later => true,
             Some(FirstNotCompared) if !later => true,

@@ -5,12 +5,13 @@ use denote.Ref.{now}
 use borrow.Author.Needs.{needs}
 use Rattle.line.specs.Hex.{lowerDigit, hexPair}
 use Rattle.log_verdict.specs.Kinds.{beginsWith}
-use Rattle.checker.proofs.Alike.{kind-over, kind-answer, kind-refusal, kind-frame}
+use Rattle.log_verdict.proofs.LineKinds.{long-kind, begun-first, begun-second, begun-answer}
+use Rattle.checker.proofs.Alike.{kind-frame}
 use Rattle.checker.proofs.kinds.kind_of.Statement.{statement}
 use Rattle.checker.proofs.kinds.kind_of.Tie as tie
 
 returns : tie.Need-returns
-returns c = kind-over (now (c .before .before .args .line)) (omega arith)
+returns c = sym (long-kind (now (c .before .before .args .line)) (omega arith))
 
 begins-with-requires : tie.Need-begins-with-requires
 begins-with-requires c κs = search needs
@@ -19,7 +20,7 @@ returns-2 : tie.Need-returns-2
 unfolding beginsWith hexPair lowerDigit
 returns-2 c =
     let after-begins-with = c .before in let start = after-begins-with .before .before .before .before in
-    kind-answer (now (start .args .line)) (omega arith) (sym (after-begins-with .begins-with .ensures) ∙ c .if2 .taken)
+    sym (begun-answer (now (start .args .line)) (omega arith) (begun-first (now (start .args .line)) (sym (after-begins-with .begins-with .ensures) ∙ c .if2 .taken)))
 
 begins-with-requires-2 : tie.Need-begins-with-requires-2
 begins-with-requires-2 c κs = search needs
@@ -29,7 +30,7 @@ unfolding beginsWith hexPair lowerDigit
 returns-3 c =
     let after-begins-with2 = c .before in let else2 = after-begins-with2 .before .before in let after-begins-with = else2 .before in
     let start = after-begins-with .before .before .before .before in
-    kind-refusal (now (start .args .line)) (omega arith) (sym (after-begins-with .begins-with .ensures) ∙ else2 .if2 .left) (sym (after-begins-with2 .begins-with2 .ensures) ∙ c .if3 .taken)
+    sym (begun-answer (now (start .args .line)) (omega arith) (begun-second (now (start .args .line)) (sym (after-begins-with2 .begins-with2 .ensures) ∙ c .if3 .taken)))
 
 slice-aggregate-decode-line : tie.Need-slice-aggregate-decode-line
 slice-aggregate-decode-line c = search needs
@@ -48,7 +49,7 @@ unfolding beginsWith hexPair lowerDigit
 returns-4 c =
     let after-decode-line = c .before .before .before in let else3 = after-decode-line .before .before in let after-begins-with2 = else3 .before in
     let else2 = after-begins-with2 .before .before in let after-begins-with = else2 .before in let start = after-begins-with .before .before .before .before in
-    kind-frame (now (start .args .line)) (omega arith) _ (sym (after-begins-with .begins-with .ensures) ∙ else2 .if2 .left) (sym (after-begins-with2 .begins-with2 .ensures) ∙ else3 .if3 .left)
+    kind-frame (now (start .args .line)) _ (omega arith) (sym (after-begins-with .begins-with .ensures) ∙ else2 .if2 .left) (sym (after-begins-with2 .begins-with2 .ensures) ∙ else3 .if3 .left)
     (after-decode-line .decode-line .ensures .1 .0) (c .enum-told2 .given .1)
 
 returns-5 : tie.Need-returns-5
@@ -56,7 +57,7 @@ unfolding beginsWith hexPair lowerDigit
 returns-5 c =
     let after-decode-line = c .before .before .before in let else3 = after-decode-line .before .before in let after-begins-with2 = else3 .before in
     let else2 = after-begins-with2 .before .before in let after-begins-with = else2 .before in let start = after-begins-with .before .before .before .before in
-    kind-frame (now (start .args .line)) (omega arith) _ (sym (after-begins-with .begins-with .ensures) ∙ else2 .if2 .left) (sym (after-begins-with2 .begins-with2 .ensures) ∙ else3 .if3 .left)
+    kind-frame (now (start .args .line)) _ (omega arith) (sym (after-begins-with .begins-with .ensures) ∙ else2 .if2 .left) (sym (after-begins-with2 .begins-with2 .ensures) ∙ else3 .if3 .left)
     (after-decode-line .decode-line .ensures .1 .0) (c .enum-told .given .1)
 
 pub kind-of-spec : {M : Type 1} → statement M

@@ -2,7 +2,7 @@
 use denote.Ref.{now}
 use borrow.Author.Needs.{needs}
 use Rattle.table.specs.Blocks.{layout}
-use Rattle.log_verdict.specs.Checking.{noLine}
+use Rattle.log_verdict.specs.Checking.{lineRefused}
 use Rattle.checker.proofs.Checked.{stopped-in64, checked-by, checked-still}
 use Rattle.checker.proofs.lines.check_line.Statement.{statement}
 use Rattle.checker.proofs.lines.check_line.Tie as tie
@@ -66,7 +66,7 @@ returns-4 c =
     let after-state = after-known-told .before in let start = after-state .before .before .before .before in
     let a = start .args in
     checked-by layout (now (a .table)) (now (a .text)) (now (a .line)) (after-state .state .given .1) (after-at-most .at-most .ensures) (after-kind-of .kind-of .ensures) (c .enum-told4 .given .1)
-    (stopped-in64 noLine (after-known-told .known-told .given .0 .1))
+    (stopped-in64 lineRefused (after-known-told .known-told .given .0 .1))
 
 pub check-line-spec : {M : Type 1} → statement M
 check-line-spec =

@@ -17,7 +17,7 @@ returns : tie.Need-returns
 returns c =
     let then1 = c .before .before .before in let start = then1 .before .before .before in
     let a = start .args in
-    c .concluded .ensures (now (a .table)) ∙ ap (conclude layout) (last-none layout (stateIn (a .state) (now (a .table)) (now (a .text))) (now (a .held)) (a .have) (then1 .if1 .taken))
+    c .concluded .ensures (now (a .table)) ∙ ap (conclude) (last-none layout (stateIn (a .state) (now (a .table)) (now (a .text))) (now (a .held)) (a .have) (then1 .if1 .taken))
 
 slice-aggregate-check-line : tie.Need-slice-aggregate-check-line
 slice-aggregate-check-line c =
@@ -38,7 +38,7 @@ returns-2 c =
     let after-check-line = c .before .before .before .before .before in let else1 = after-check-line .before .before .before .before in
     let start = else1 .before .before .before in
     let a = start .args in
-    c .concluded2 .ensures (after-check-line .check-line .last .0) ∙ ap (conclude layout)
+    c .concluded2 .ensures (after-check-line .check-line .last .0) ∙ ap (conclude)
     (after-check-line .check-line .ensures ∙ last-checked layout (stateIn (a .state) (now (a .table)) (now (a .text))) (now (a .held)) (a .have) (else1 .if1 .left) (start .pre))
 
 pub last-verdict-spec : {M : Type 1} → statement M

@@ -23,14 +23,14 @@ Inv-loop table₀ text₀ log checked₀ at₀ table text checked at =
 abbrev μ-loop : tie.MeasureT-loop
 μ-loop table₀ text₀ log checked₀ at₀ table text checked at = length log - at
 
-opened-requires : tie.Need-opened-requires Inv-loop μ-loop
-opened-requires c κs = search needs
+opening-requires : tie.Need-opening-requires Inv-loop μ-loop
+opening-requires c κs = search needs
 
 loop-holds : tie.Need-loop-holds Inv-loop μ-loop
 loop-holds c =
     let start = c .before .before .before in
     let a = start .args in
-    (refl, rw (c .opened .ensures, due-none 0 0 (now (a .text)) (omega arith), due-all (now (a .log))))
+    (refl, rw (c .opening .ensures (now (a .table)) (now (a .text)), due-all (now (a .log))))
 
 sub-line-end : tie.Need-sub-line-end Inv-loop μ-loop
 sub-line-end c = omega arith
@@ -105,7 +105,7 @@ check-lines-spec =
     (tie.spec
     Inv-loop
     μ-loop
-    opened-requires
+    opening-requires
     loop-holds
     sub-line-end
     part-line-end-start

@@ -18,7 +18,7 @@ same-length c = search needs
 returns : tie.Need-returns
 returns c =
     let after-check-lines = c .before .before .before .before .before in
-    c .concluded .ensures (after-check-lines .check-lines .last .0) ∙ ap (conclude layout) (after-check-lines .check-lines .ensures)
+    c .concluded .ensures (after-check-lines .check-lines .last .0) ∙ ap (conclude) (after-check-lines .check-lines .ensures)
 
 pub verdict-from-spec : {M : Type 1} → statement M
 verdict-from-spec =
