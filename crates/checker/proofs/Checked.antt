@@ -32,7 +32,7 @@ use Rattle.checker.specs.declared.Fault as Declared
 fits-64 : {n : ℕ} → n < 2 ^ 64 → n ≡ min n lastNumber
 fits-64 h = omega arith
 
-pub in-type : (j : CheckState) {vs : List Val} → Is the-row j vs → (t text : List ℕ) → stateIn j t text ≡ in64 (stateIn j t text)
+in-type : (j : CheckState) {vs : List Val} → Is the-row j vs → (t text : List ℕ) → stateIn j t text ≡ in64 (stateIn j t text)
 in-type (RightSoFar n at end) {vs} is t text = ap (rightSoFar t (dueIn at end text)) (fits-64 (owed the-type the-laws (RightSoFar n at end) vs is .0 .1))
 in-type (StoppedAt f n) {vs} is t text = ap (stoppedAt (faultMeant f)) (fits-64 (owed the-type the-laws (StoppedAt f n) vs is .1 .0 .1))
 
@@ -86,7 +86,7 @@ unfolding checkLinesIn64
 checked-first L i line e r h = rw e (rw r at h)
 
 -- the end of the log: an answer is due, or none is, or a line was wrong
-module _ (L : Layout) (t text : List ℕ) where
+module _ (t text : List ℕ) where
   module _ {g : CheckState} {n at end last : ℕ} (is : g ≡ RightSoFar n at end) (most : last ≡ min end (length text)) where
     pub end-due : at < last → wrongLine missing n ≡ conclude (stateIn g t text)
     end-due h = rw (is, ← due-most at end text (length text) most refl, due-first at last text _ h (omega arith) refl)

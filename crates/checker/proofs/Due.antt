@@ -7,8 +7,8 @@ use lib.ListN.{length, take, drop, length-take, drop-of-length-le}
 use lib.Seq.{slice, take-length, length-slice, take-take, drop-drop}
 use Rattle.laws.specs.Parts.{part}
 use Rattle.line.specs.Split.{linesIn, lineEnd}
-use Rattle.line.proofs.Lines.{take-most, end-within, first-line}
-use Rattle.laws.proofs.Parts.{slice-part}
+use Rattle.line.proofs.Lines.{end-within, first-line}
+use Rattle.laws.proofs.Parts.{slice-part, take-most}
 use Rattle.checker.specs.Meant.{dueIn}
 
 module _ (at end : ℕ) (text : List ℕ) where

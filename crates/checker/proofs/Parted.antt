@@ -1,12 +1,10 @@
 -- A call on a piece of a log, and the last line: each way through, in the form in which the code has it.
-use mathlib.Core.Path.{_≡_, refl, sym, ap, _∙_, subst}
+use mathlib.Core.Path.{_≡_, refl, ap, _∙_, subst}
 use mathlib.Core.Bool.{Bool, true, false}
 use mathlib.Core.List.{List, []}
 use Prim.Native.Nat.{ℕ, _≤_, _<_}
 use lib.ListN.{length, take}
-use lib.Seq.{length-take-le}
-use Rattle.laws.specs.Lists.{isEmpty}
-use Rattle.laws.proofs.Lists.{decide, empty-is}
+use Rattle.laws.proofs.Parts.{take-some}
 use Rattle.model.specs.Tables.{Layout}
 use Rattle.line.specs.Split.{Split, split}
 use Rattle.line.proofs.Cutting.{uses-some}
@@ -53,4 +51,4 @@ module _ (L : Layout) (j : verdict.CheckState) (held : List ℕ) (have : ℕ) wh
 
   pub last-checked : (have ≡ 0 → ⊥) → have ≤ length held → checkIn64 L j (take have held) ≡ checkLast L (record { state = j; line = take have held })
   unfolding checkLast
-  last-checked ne h = decide (isEmpty (take have held)) (λ e. absurd (ne (sym (length-take-le have held h) ∙ ap length (empty-is (take have held) e)))) (λ e. rw e)
+  last-checked ne h = rw (take-some have held ne h)

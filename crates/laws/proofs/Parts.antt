@@ -1,12 +1,18 @@
 -- Laws of parts and of blocks of one length. Each is stated over the offset and the length.
-use mathlib.Core.Path.{_≡_, refl, ap, ap₂, _∙_}
+use mathlib.Core.Path.{_≡_, refl, sym, ap, ap₂, _∙_}
+use mathlib.Core.Bool.{false}
 use mathlib.Core.List.{List, _++_, append-assoc, append-nil}
-use Prim.Native.Nat.{ℕ, _+_, _-_, _<_, _≤_}
+use Prim.Native.Nat.{ℕ, _+_, _-_, _<_, _≤_, min}
 use native.Mathlib.Omega.{arith}
 use lib.ListN.{length, take, drop, getD, set, length-set, length-drop, length-replicate, getD-replicate, replicate-append-replicate}
-use lib.Seq.{drop-length, length-take-le, take-add, take-at, drop-at, take-append-le, drop-append-le, take-append-add, drop-append-add, slice}
+use lib.Dec.{ltb}
+use lib.Seq.{drop-length, take-all, length-take-le, take-add, take-at, drop-at, take-append-le, drop-append-le, take-append-add, drop-append-add, slice}
 use borrow.Author.Fill.{fill-more}
+use borrow.Author.Tests.{ltb-true, ltb-false}
+use Rattle.laws.specs.Lists.{isEmpty}
 use Rattle.laws.specs.Parts.{part, withPart, zeros}
+use Rattle.laws.proofs.Tests.{ne-true}
+use Rattle.laws.proofs.Lists.{decide, empty-is}
 
 -- Zeros.
 pub zero-length : (n : ℕ) → length (zeros n) ≡ n
@@ -89,3 +95,14 @@ slice-part a e l h k =
     ap (λ (m : ℕ). slice a m l) n
     ∙ ap (drop a) (take-add a (e - a) l)
     ∙ drop-at (take a l) (part a (e - a) l) a (length-take-le a l (omega arith))
+
+-- no more is read of a list than it has
+pub take-most : {r : ℕ} (n m : ℕ) (l : List ℕ) → r ≡ min n m → length l ≡ m → take r l ≡ take n l
+take-most {r} n m l e h =
+    decide (ltb m n)
+    (λ f. let above = ltb-true m n f in take-all r l (omega arith) ∙ sym (take-all n l (omega arith)))
+    (λ f. let below = ltb-false m n f in ap (λ (k : ℕ). take k l) (let same : r ≡ n = omega arith in same))
+
+-- what is read is not empty where there is something to read
+pub take-some : (n : ℕ) (l : List ℕ) → (n ≡ 0 → ⊥) → n ≤ length l → isEmpty (take n l) ≡ false
+take-some n l ne h = ne-true (isEmpty (take n l)) (λ e. ne (sym (length-take-le n l h) ∙ ap length (empty-is (take n l) e)))

@@ -98,6 +98,25 @@ lines-last (b ∷ l) h =
     one [] = refl
     one (x ∷ l) = refl
 
+-- no line of a log has a byte 10, and there are no more lines than bytes
+pub lines-clean : (s : List ℕ) → allOf noTen (linesIn s) ≡ true
+unfolding linesIn
+lines-clean [] = refl
+lines-clean (b ∷ s) = decide (eqb b 10) (λ e. rw e (lines-clean s)) (λ e. rw e (of (linesIn s) (ap not e) (lines-clean s)))
+  where
+    of : (lines : List (List ℕ)) → not (eqb b 10) ≡ true → allOf noTen lines ≡ true → allOf noTen (prefixed b lines) ≡ true
+    of [] e h = both (both e refl) refl
+    of (l ∷ lines) e h = both (both e (and-left (noTen l) _ h)) (and-right (noTen l) _ h)
+
+pub lines-few : (s : List ℕ) → length (linesIn s) ≤ length s
+unfolding linesIn
+lines-few [] = omega arith
+lines-few (b ∷ s) = decide (eqb b 10) (λ e. rw e (omega (arith, lines-few s))) (λ e. rw e (of (linesIn s) (lines-few s)))
+  where
+    of : (lines : List (List ℕ)) → length lines ≤ length s → length (prefixed b lines) ≤ suc (length s)
+    of [] h = omega arith
+    of (l ∷ lines) h = omega arith
+
 -- A piece behind what is kept of a line
 
 module _ (line piece : List ℕ) where

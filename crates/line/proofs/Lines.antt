@@ -2,24 +2,17 @@
 use mathlib.Core.Path.{_≡_, sym, ap, _∙_}
 use mathlib.Core.Bool.{true, false}
 use mathlib.Core.List.{List, [], _∷_, _++_, append-assoc}
-use Prim.Native.Nat.{ℕ, suc, _+_, _-_, _≤_, _<_, min}
+use Prim.Native.Nat.{ℕ, suc, _+_, _-_, _≤_, _<_}
 use native.Mathlib.Numerals.{add-one}
 use native.Mathlib.Omega.{arith}
-use lib.Dec.{eqb, ltb}
+use lib.Dec.{eqb}
 use lib.ListN.{length, getD, take, drop, length-append, length-take, drop-of-length-le}
 use lib.Seq.{sets, drop-cons, take-at, drop-at, take-all, length-take-le, take-append-add, drop-drop}
-use borrow.Author.Tests.{ne-eqb, lt-ltb, le-ltb, ltb-true, ltb-false}
+use borrow.Author.Tests.{ne-eqb, lt-ltb, le-ltb}
 use Rattle.laws.specs.Stores.{Wrote}
 use Rattle.laws.proofs.Lists.{decide}
 use Rattle.laws.proofs.Stores.{sets-withPart}
 use Rattle.line.specs.Split.{prefixed, linesIn, lineRoom, kept, lineEnd, split}
-
--- no more is read of a list than it has
-pub take-most : {r : ℕ} (n m : ℕ) (l : List ℕ) → r ≡ min n m → length l ≡ m → take r l ≡ take n l
-take-most {r} n m l e h =
-    decide (ltb m n)
-    (λ f. let above = ltb-true m n f in take-all r l (omega arith) ∙ sym (take-all n l (omega arith)))
-    (λ f. let below = ltb-false m n f in ap (λ (k : ℕ). take k l) (let same : r ≡ n = omega arith in same))
 
 -- where the line ends in what is left of a piece, from i on
 module _ (s : List ℕ) (i : ℕ) where

@@ -13,14 +13,14 @@ use Rattle.laws.proofs.Lists.{decide, all-append, all-drop}
 use Rattle.model.specs.Tables.{Layout}
 use Rattle.line.specs.Split.{linesIn}
 use Rattle.line.specs.Log.{lineStep, freshTable}
-use Rattle.line.proofs.Cutting.{noTen}
+use Rattle.line.proofs.Cutting.{noTen, lines-clean, lines-few}
 use Rattle.log_verdict.specs.Kinds.{sameLine, LineKind, questionKind, answerKind, neitherKind, kindOf, questionBy, answerBy, isQuestion, isAnswer}
 use Rattle.log_verdict.specs.Checking.{Fault, different, LogVerdict, acceptedLog, wrongLine, lineNamed, CheckState, rightSoFar, stoppedAt, answersOn, checkBy, checkLine, checkLines, opening, conclude, logVerdict}
 use Rattle.log_verdict.specs.Accepted.{tableFrom, answersBehind, Accepted}
 use Rattle.log_verdict.specs.Wrong.{WrongAt, isNeither, questionStands, endStands, noneIsDue, otherBytes, DueAfter, noLineYet, behindFrame, Begun, FirstWrong}
 use Rattle.log_verdict.specs.Promises.{NamedExactly, LineWithin}
 use Rattle.log_verdict.proofs.LineKinds.{line-other, line-alike, is-answer}
-use Rattle.log_verdict.proofs.Texts.{asLog, lines-back, lines-clean, lines-few, text-answers}
+use Rattle.log_verdict.proofs.Texts.{asLog, lines-back, text-answers}
 use Rattle.log_verdict.proofs.Right.{stopped-all, stopped-never, wrong-never, answer-leaves, no-line, right-lines, lines-right}
 
 -- Lines one after the other

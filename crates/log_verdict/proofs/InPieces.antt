@@ -29,6 +29,11 @@ next-in64 n = omega arith
 twice-in64 : (n : ℕ) → min (min n lastNumber) lastNumber ≡ min n lastNumber
 twice-in64 n = omega arith
 
+conclude-in64 : (j : CheckState) → conclude (in64 j) ≡ verdictIn64 (conclude j)
+conclude-in64 (stoppedAt f n) = refl
+conclude-in64 (rightSoFar t [] n) = refl
+conclude-in64 (rightSoFar t (d ∷ due) n) = refl
+
 module _ (L : Layout) where
   line-in64 : (j : CheckState) (line : List ℕ) → checkIn64 L (in64 j) line ≡ in64 (checkLine L j line)
   unfolding checkIn64 checkLine
@@ -41,11 +46,6 @@ module _ (L : Layout) where
       of questionKind (d ∷ due) = ap (stoppedAt missing) (twice-in64 n)
       of answerKind [] = ap (stoppedAt extra) (twice-in64 n)
       of answerKind (d ∷ due) = decide (sameLine line d) (λ s. rw s (ap (rightSoFar t due) (next-in64 n))) (λ s. rw s (ap (stoppedAt different) (twice-in64 n)))
-
-  conclude-in64 : (j : CheckState) → conclude (in64 j) ≡ verdictIn64 (conclude j)
-  conclude-in64 (stoppedAt f n) = refl
-  conclude-in64 (rightSoFar t [] n) = refl
-  conclude-in64 (rightSoFar t (d ∷ due) n) = refl
 
   -- All lines, each counted in 64 bits
 
@@ -109,4 +109,4 @@ same-in64 (wrongLine f n) h = ap (wrongLine f) (omega arith)
 pub whole-in64 : (L : Layout) (log : List ℕ) → length log < lastNumber → conclude (checkLinesIn64 L (opening L) (linesIn log)) ≡ logVerdict L log
 unfolding logVerdict
 whole-in64 L log h =
-    ap (conclude) (all-in64 L (opening L) (linesIn log)) ∙ conclude-in64 L (checkLines L (opening L) (linesIn log)) ∙ same-in64 (logVerdict L log) (omega (arith, line-within L log))
+    ap (conclude) (all-in64 L (opening L) (linesIn log)) ∙ conclude-in64 (checkLines L (opening L) (linesIn log)) ∙ same-in64 (logVerdict L log) (omega (arith, line-within L log))

@@ -21,7 +21,7 @@ use Rattle.model.specs.Tables.{Layout, effect}
 use Rattle.model.proofs.Unchanged.{writes-at-most}
 use Rattle.line.specs.Hex.{lowerDigit, hexPair, hexText}
 use Rattle.line.specs.Line.{Line, stepLine, refusedLine, lineOf}
-use Rattle.line.specs.Split.{prefixed, linesIn, longestLine}
+use Rattle.line.specs.Split.{linesIn, longestLine}
 use Rattle.line.specs.Log.{answerLine, answerLines, refusalLine, shown, onLine, lineStep}
 use Rattle.line.proofs.Digits.{length-text}
 use Rattle.line.proofs.Cutting.{noTen, lines-ended}
@@ -45,33 +45,15 @@ lines-back (l ∷ lines) s h =
     ∙ lines-ended l (asLog lines ++ s) (and-left (noTen l) _ h)
     ∙ ap (λ (ls : List (List ℕ)). l ∷ ls) (lines-back lines s (and-right (noTen l) _ h))
 
-pub lines-clean : (s : List ℕ) → allOf noTen (linesIn s) ≡ true
-unfolding linesIn
-lines-clean [] = refl
-lines-clean (b ∷ s) = decide (eqb b 10) (λ e. rw e (lines-clean s)) (λ e. rw e (of (linesIn s) (ap not e) (lines-clean s)))
-  where
-    of : (lines : List (List ℕ)) → not (eqb b 10) ≡ true → allOf noTen lines ≡ true → allOf noTen (prefixed b lines) ≡ true
-    of [] e h = both (both e refl) refl
-    of (l ∷ lines) e h = both (both e (and-left (noTen l) _ h)) (and-right (noTen l) _ h)
-
-pub lines-few : (s : List ℕ) → length (linesIn s) ≤ length s
-unfolding linesIn
-lines-few [] = omega arith
-lines-few (b ∷ s) = decide (eqb b 10) (λ e. rw e (omega (arith, lines-few s))) (λ e. rw e (of (linesIn s) (lines-few s)))
-  where
-    of : (lines : List (List ℕ)) → length lines ≤ length s → length (prefixed b lines) ≤ suc (length s)
-    of [] h = omega arith
-    of (l ∷ lines) h = omega arith
-
 -- Digits have no byte 10
 
-digit-clean : (n : ℕ) → not (eqb (lowerDigit n) 10) ≡ true
+lower-clean : (n : ℕ) → not (eqb (lowerDigit n) 10) ≡ true
 unfolding lowerDigit
-digit-clean n = decide (ltb n 10) (λ e. rw e (ap not (ne-eqb (48 + n) 10 (λ z. omega (arith, z))))) (λ e. rw e (ap not (ne-eqb (87 + n) 10 (λ z. omega (arith, z)))))
+lower-clean n = decide (ltb n 10) (λ e. rw e (ap not (ne-eqb (48 + n) 10 (λ z. omega (arith, z))))) (λ e. rw e (ap not (ne-eqb (87 + n) 10 (λ z. omega (arith, z)))))
 
 pair-clean : (b : ℕ) → noTen (hexPair b) ≡ true
 unfolding hexPair
-pair-clean b = both (digit-clean (b / 16)) (both (digit-clean (b % 16)) refl)
+pair-clean b = both (lower-clean (b / 16)) (both (lower-clean (b % 16)) refl)
 
 text-clean : (s : List ℕ) → noTen (hexText s) ≡ true
 text-clean s = all-pieces (λ b. not (eqb b 10)) hexPair (λ b. true) (λ b _. pair-clean b) s (all-true s)

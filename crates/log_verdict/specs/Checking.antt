@@ -71,8 +71,8 @@ module _ (L : Layout) where
   checkLine (stoppedAt f n) line = stoppedAt f n
 
   unfoldable pub checkLines : CheckState → List (List ℕ) → CheckState
-  checkLines j [] = j
-  checkLines j (line ∷ lines) = checkLines (checkLine j line) lines
+  checkLines s [] = s
+  checkLines s (line ∷ lines) = checkLines (checkLine s line) lines
 
   -- a fresh table, nothing due, the first line
   abbrev pub opening : CheckState

@@ -26,16 +26,16 @@ pub record CheckReader : Type 0 where
 
 module _ (L : Layout) where
   unfoldable pub checkIn64 : CheckState → List ℕ → CheckState
-  checkIn64 j line = in64 (checkLine L j line)
+  checkIn64 s line = in64 (checkLine L s line)
 
   -- all lines of a log
   unfoldable pub checkLinesIn64 : CheckState → List (List ℕ) → CheckState
-  checkLinesIn64 j [] = j
-  checkLinesIn64 j (line ∷ lines) = checkLinesIn64 (checkIn64 j line) lines
+  checkLinesIn64 s [] = s
+  checkLinesIn64 s (line ∷ lines) = checkLinesIn64 (checkIn64 s line) lines
 
   -- a call takes a piece up to its first byte 10 and checks the line that ends there, or keeps all of the piece
   abbrev pub onSplitLine : CheckState → Split → CheckReader
-  onSplitLine j s = cond (s .ended) (record { state = checkIn64 j (s .line); line = [] }) (record { state = j; line = s .line })
+  onSplitLine s p = cond (p .ended) (record { state = checkIn64 s (p .line); line = [] }) (record { state = s; line = p .line })
 
   unfoldable pub checkPiece : CheckReader → List ℕ → CheckReader
   checkPiece c piece = onSplitLine (c .state) (split (c .line) piece)

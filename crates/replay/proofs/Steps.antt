@@ -1,16 +1,15 @@
 -- What a line's step gives back, in the form in which the code has it.
 use mathlib.Core.Path.{_≡_, refl, sym, ap, _∙_, subst}
 use mathlib.Core.Bool.{Bool, true, false, cond}
-use mathlib.Core.List.{List, [], _∷_}
+use mathlib.Core.List.{List}
 use Prim.Native.Nat.{ℕ, _≤_, _<_}
 use native.Mathlib.Omega.{arith}
 use lib.Dec.{eqb, leb}
 use lib.ListN.{length, take, length-take}
-use lib.Seq.{length-take-le}
 use borrow.Author.Tests.{leb-true, eqb-true}
-use Rattle.laws.specs.Lists.{isEmpty}
 use Rattle.laws.specs.Stores.{Wrote}
 use Rattle.laws.proofs.Stores.{wrote-none}
+use Rattle.laws.proofs.Parts.{take-some}
 use Rattle.laws.proofs.Lists.{decide}
 use Rattle.model.specs.Numbers.{answerRoom}
 use Rattle.model.specs.Steps.{Act, command, finish, drained}
@@ -95,11 +94,7 @@ module _ (L : Layout) (t held : List ℕ) (have : ℕ) where
   pub end-line : {out out′ t′ : List ℕ} {n : ℕ} → (have ≡ 0 → ⊥) → have ≤ length held → Logs (lineStep L t (take have held)) n t′ out out′
       → Logs (lastStep L (record { table = t; line = take have held })) n t′ out out′
   unfolding lastStep
-  end-line ne h w = rw (not-empty (take have held) (λ z. ne (sym (length-take-le have held h) ∙ z))) w
-    where
-      not-empty : (l : List ℕ) → (length l ≡ 0 → ⊥) → isEmpty l ≡ false
-      not-empty [] f = absurd (f refl)
-      not-empty (x ∷ l) f = refl
+  end-line ne h w = rw (take-some have held ne h) w
 
 -- the same call, and the same step, by an equal one
 pub as-call : {c d : Call} {r : Fed} {t held out out′ : List ℕ} → c ≡ d → Did c r t held out out′ → Did d r t held out out′

@@ -7,7 +7,7 @@ use denote.Ref.{now}
 use lib.ListN.{length}
 use lib.Seq.{length-take-le}
 use borrow.Author.Needs.{needs}
-use Rattle.line.proofs.Lines.{take-most}
+use Rattle.laws.proofs.Parts.{take-most}
 use Rattle.log_verdict.specs.Kinds.{sameLine}
 use Rattle.checker.proofs.kinds.begins_with.Statement.{statement}
 use Rattle.checker.proofs.kinds.begins_with.Tie as tie

@@ -1,7 +1,6 @@
 -- `checker::lines::concluded` meets its contract: an answer is due, or none is, or a line was wrong.
 use denote.Ref.{now}
 use borrow.Author.Needs.{needs}
-use Rattle.table.specs.Blocks.{layout}
 use Rattle.checker.proofs.Checked.{end-due, end-clear, end-wrong}
 use Rattle.checker.proofs.lines.concluded.Statement.{statement}
 use Rattle.checker.proofs.lines.concluded.Tie as tie
@@ -18,17 +17,17 @@ enum-known-state-2 c = search needs
 returns : tie.Need-returns
 returns c t =
     let after-at-most = c .before in let after-state = after-at-most .before .before in let start = after-state .before .before .before in
-    end-due layout t (now (start .args .text)) (after-state .state .given .1) (after-at-most .at-most .ensures) (c .if1 .taken)
+    end-due t (now (start .args .text)) (after-state .state .given .1) (after-at-most .at-most .ensures) (c .if1 .taken)
 
 returns-2 : tie.Need-returns-2
 returns-2 c t =
     let after-at-most = c .before in let after-state = after-at-most .before .before in let start = after-state .before .before .before in
-    end-clear layout t (now (start .args .text)) (after-state .state .given .1) (after-at-most .at-most .ensures) (c .if1 .left)
+    end-clear t (now (start .args .text)) (after-state .state .given .1) (after-at-most .at-most .ensures) (c .if1 .left)
 
 returns-3 : tie.Need-returns-3
 returns-3 c t =
     let after-state2 = c .before in let start = after-state2 .before .before .before in
-    end-wrong layout t (now (start .args .text)) (after-state2 .state2 .given .1)
+    end-wrong t (now (start .args .text)) (after-state2 .state2 .given .1)
 
 pub concluded-spec : {M : Type 1} → statement M
 concluded-spec =
