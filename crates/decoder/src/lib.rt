@@ -1,16 +1,18 @@
-// The command core of a virtio-video decoder, for a host that links it: four functions of a device and one of logs, safe on any bytes and words. Each
-// states its whole outcome by one equation: the four to the model, `freshen` and `effect` of crates/model/specs/Tables, the check of a log to
-// `logVerdict` of crates/log_verdict/specs/Checking, over the layout of crates/table/specs/Blocks.
+// The command core of a virtio-video decoder, for a host that links it: four functions of a device, two questions to it and one function of logs, safe on any
+// bytes and words. Each states its whole outcome by one equation: the four to the model, `freshen` and `effect` of crates/model/specs/Tables, the questions to
+// crates/table/specs/Figures, the check of a log to `logVerdict` of crates/log_verdict/specs/Checking, over the layout of crates/table/specs/Blocks.
 ghost use mathlib.Core.Path.{_≡_};
 ghost use Rattle.model.specs.Steps.{command, finish, drained};
 ghost use Rattle.model.specs.Tables.{freshen, effect};
 ghost use Rattle.table.specs.Blocks.{layout};
 ghost use Rattle.table.specs.Values.{freshened};
+ghost use Rattle.table.specs.Figures.{askedInAll, askedOfStream};
 ghost use Rattle.guard.specs.AsEffect.{asEffect};
 ghost use Rattle.log_verdict.specs.Checking.{logVerdict};
 ghost use Rattle.checker.specs.Meant.{numberedBy};
 use checker::NumberedVerdict;
 use protocol::Outcome;
+use table::PendingFigure;
 
 // Makes a table fresh: the used words are those of no stream.
 #[no_mangle]
@@ -59,6 +61,22 @@ pub extern "C" fn virtio_video_drained(
     ensures { λ r. ⌜ asEffect r (now (table .exit)) (now (answers .exit)) ≡ effect layout (now (table .entry)) (drained stream) (now (answers .entry)) ⌝ }
 {
     guard::drained(table, stream, answers)
+}
+
+// How many answers are pending in all, and how many words of the table were read for it.
+#[no_mangle]
+pub extern "C" fn virtio_video_pending_in_all(table: &[u32]) -> PendingFigure
+    ensures { λ r. ⌜ r ≡ askedInAll (now (table .entry)) ⌝ }
+{
+    table::pending_in_all(table)
+}
+
+// How many answers are pending to a stream, and how many words of the table were read for it.
+#[no_mangle]
+pub extern "C" fn virtio_video_pending_of_stream(table: &[u32], stream: u32) -> PendingFigure
+    ensures { λ r. ⌜ r ≡ askedOfStream (now (table .entry)) stream ⌝ }
+{
+    table::pending_of_stream(table, stream)
 }
 
 // The verdict on a log of questions and answers, such as another maker's device gave: its number, and the line that is named.

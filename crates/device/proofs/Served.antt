@@ -3,32 +3,37 @@ use mathlib.Core.Path.{_≡_, refl, sym, ap, _∙_, subst}
 use mathlib.Core.Bool.{Bool, true, false}
 use mathlib.Core.Option.{Option, none, some}
 use mathlib.Core.List.{List, [], _∷_}
-use Prim.Native.Nat.{ℕ, _+_, _*_, _-_, _<_}
+use Prim.Native.Nat.{ℕ, _+_, _*_, _-_, _%_, _^_, _<_}
+use native.Mathlib.Omega.{arith}
 use native.Mathlib.Nat.{add-sub-cancel-left}
-use lib.ListN.{length, take}
+use lib.ListN.{length, set, take, length-set}
+use lib.Seq.{getD-set-same}
 use Rattle.laws.specs.Parts.{part, withPart}
 use Rattle.laws.specs.Lists.{allOf}
 use Rattle.laws.specs.Stores.{Wrote}
-use Rattle.laws.proofs.Tests.{never, and-right}
-use Rattle.laws.proofs.Lists.{all-getD}
+use Rattle.laws.proofs.Tests.{never, both, and-left, and-right}
+use Rattle.laws.proofs.Lists.{all-getD, all-set}
 use Rattle.laws.proofs.Stores.{wrote-none}
-use Rattle.model.specs.Numbers.{streamPlaces}
-use Rattle.model.specs.Device.{Stream, Place, vacant, occupied, Device, recordOf, noPlace, place, spend, putBack}
+use Rattle.model.specs.Numbers.{streamPlaces, streamNumbers}
+use Rattle.model.specs.Device.{Stream, Place, vacant, occupied, Device, recordOf, noPlace, place, pendingAt, spend, putBack}
 use Rattle.model.specs.Answers.{ErrorCode, code, success, failure, responseType}
 use Rattle.model.specs.Replies.{Reply, refuse, reply, fail}
 use Rattle.model.specs.Commands.{Surroundings}
 use Rattle.model.specs.Steps.{Act, command, around, serve}
-use Rattle.model.specs.WellFormed.{goodStream, goodPlace, u32}
+use Rattle.model.specs.WellFormed.{goodStream, goodPlace, u32, spentIn}
+use Rattle.model.proofs.Spent.{spent-below}
 use Rattle.model.proofs.Seen.{NotAgain}
-use Rattle.model.proofs.WellFormed.{GoodPlaces, well-places, not-again}
+use Rattle.model.proofs.WellFormed.{GoodPlaces, well-places, well-spent, not-again}
+use Rattle.model.proofs.Sizes.{Sixteen, keeps-sixteen}
 use Rattle.model.proofs.Unchanged.{put-back-same}
 use Rattle.model.proofs.Refusals.{command-answers}
 use Rattle.table.specs.Spent.{spentSize, spentWords, decodeSpent}
-use Rattle.table.specs.Blocks.{placeSize, placeWords, blocks, blocksSize, encode}
+use Rattle.table.specs.Figures.{totalAt, figuresSize, placeMark, figureWords}
+use Rattle.table.specs.Blocks.{placeSize, placeWords, blocks, blocksSize, encode, withPlaces, withSpent}
 use Rattle.table.specs.Search.{findStream, findVacant, hasAllSlots}
-use Rattle.table.proofs.Theorems.{well-eight, well-sized, well-numbers}
+use Rattle.table.proofs.Theorems.{good-sized, well-eight, well-sized, well-numbers}
 use Rattle.table.proofs.Bits.{decode-spent}
-use Rattle.table.proofs.Records.{withSpent, blocks-front, spent-part, spent-lent, block-part, block-lent}
+use Rattle.table.proofs.Records.{sized-queue, queue-sized, blocks-front, spent-part, spent-lent, block-part, block-lent, unsettled-read, figures-lent}
 use Rattle.table.proofs.Bridge.{LiveAt, stream-found, stream-missing, stream-put, VacantAt, vacant-found, vacant-missing, vacant-put}
 use Rattle.queue.specs.Found.{foundAt}
 use Rattle.queue.specs.declared.Found.{Found}
@@ -37,7 +42,39 @@ use Rattle.answer.specs.Answer.{answerTo, plainBytes}
 use Rattle.answer.proofs.Laws.{wrote-plain}
 use Rattle.stream.specs.Replied.{BlockOf, LiveBlock, requestTo, Replied}
 use Rattle.completion.specs.Done.{Done}
-use Rattle.device.specs.Served.{Encodes, replyOf, Served}
+use Rattle.device.specs.Served.{Encodes, Unsettled, replyOf, Served}
+
+-- the place of a record whose queues have their slots, and its mark
+place-sized : (n : ℕ) (r : Option Stream) → Sixteen r → hasAllSlots (place n r) ≡ true
+place-sized n none h = refl
+place-sized n (some b) h = queue-sized n b h
+
+mark-word : (n : ℕ) (r : Option Stream) → n < streamNumbers → placeMark (place n r) < 2 ^ 32
+mark-word n none h = omega arith
+mark-word n (some b) h = omega (arith, h)
+
+-- the figures are settled: the block is read, and what stands behind the blocks is lent
+module _ {words : List ℕ} (d : Device) (k : ℕ) (p : Place) (k8 : k < streamPlaces) (u : Unsettled words d k p) where
+  abbrev new-places : List Place
+  new-places = set (d .places) k p
+
+  new-sizes : allOf hasAllSlots new-places ≡ true
+  new-sizes = all-set hasAllSlots (d .places) k p (u .sized) (u .sizes)
+
+  block-is : part (placeSize * k) (placeSize * k + placeSize - placeSize * k) words ≡ placeWords p
+  block-is =
+      unsettled-read d new-places k words new-sizes (length-set (d .places) k p ∙ u .eight) k8 (u .held)
+      ∙ ap placeWords (getD-set-same (d .places) k p vacant (omega (arith, u .eight)))
+
+  pub settled : {ys : List ℕ} {mark pending : ℕ} → ((q : Place) → part (placeSize * k) (placeSize * k + placeSize - placeSize * k) words ≡ placeWords q → mark ≡ placeMark q % 2 ^ 32)
+      → ((q : Place) → hasAllSlots q ≡ true → part (placeSize * k) (placeSize * k + placeSize - placeSize * k) words ≡ placeWords q → pending ≡ pendingAt q)
+      → ((ps : List Place) (q : Place) → length ps ≡ streamPlaces → allOf hasAllSlots (set ps k q) ≡ true → part totalAt figuresSize words ≡ figureWords ps
+      → mark ≡ placeMark q → pending ≡ pendingAt q → ys ≡ figureWords (set ps k q))
+      → withPart totalAt figuresSize words ys ≡ encode (withPlaces new-places d)
+  settled {ys} {mark} marks counts puts =
+      let marked : mark ≡ placeMark p = omega (arith, marks p block-is, u .markFits) in
+      figures-lent d new-places words ys new-sizes (length-set (d .places) k p ∙ u .eight) (u .eight) (u .held)
+      (λ e. puts (d .places) p (u .eight) new-sizes e marked (counts p (u .sized) block-is))
 
 module _ {words : List ℕ} {d : Device} (h : Encodes words d) where
   good-places : GoodPlaces (d .places)
@@ -105,18 +142,38 @@ module _ {words : List ℕ} {d : Device} (h : Encodes words d) where
     pub block-live : LiveBlock n (part (512 * k) (512 * k + 512 - 512 * k) words)
     block-live = record { stream = at .stream; holds = holds }
 
-    pub in-block : {ys room room′ : List ℕ} {refusal written : ℕ} (a : Act)
+    -- its number is one that can be taken, and so its mark is a word
+    live-number : n < streamNumbers
+    live-number =
+        let spent = subst (λ (p : Place). spentIn (d .spent) p ≡ true) (at .at) (all-getD (spentIn (d .spent)) (d .places) k vacant refl (well-spent d (h .good) .each)) in
+        omega (arith, spent-below n (d .spent) spent, well-numbers d (h .good))
+
+    all-sixteen : Sixteen (recordOf n (d .places))
+    all-sixteen = subst Sixteen (sym (at .known)) (λ q. sized-queue q n (at .stream) (good-sized (occupied n (at .stream)) (both (u32-number) good)))
+      where
+        u32-number : u32 n ≡ true
+        u32-number = and-left (u32 n) _ (subst (λ (p : Place). goodPlace p ≡ true) (at .at) (all-getD goodPlace (d .places) k vacant refl (good-places .each)))
+
+    pub in-block : {ys left room room′ : List ℕ} {refusal written : ℕ} (a : Act)
         → ((b : Stream) → BlockOf n (part (512 * k) (512 * k + 512 - 512 * k) words) b → Done n (serve (around d n) n (some b) a) ys room room′ refusal written)
-        → Served d n a (withPart (512 * k) (512 * k + 512 - 512 * k) words ys) room room′ refusal written
-    in-block {ys} {room} {room′} {refusal} {written} a done =
+        → ((d : Device) (p : Place) → Unsettled (withPart (512 * k) (512 * k + 512 - 512 * k) words ys) d k p → left ≡ encode (withPlaces (set (d .places) k p) d))
+        → Served d n a left room room′ refusal written
+    in-block {ys} {left} {room} {room′} {refusal} {written} a done settled =
         let b = at .stream in
         let x = done b holds in
-        subst (λ (o : Option Stream). Done n (serve (around d n) n o a) ys room room′ refusal written → Served d n a (withPart (512 * k) (512 * k + 512 - 512 * k) words ys) room room′ refusal written)
+        subst (λ (o : Option Stream). Done n (serve (around d n) n o a) ys room room′ refusal written → Served d n a left room room′ refusal written)
         (at .known)
         (λ y. record {
           refusal-is = y .refusal-is;
           words =
-              block-lent d sizes eight words k k8 (h .held) ys (place n (replyOf d n a .next)) (λ _. y .replied .words)
+              settled d (place n (replyOf d n a .next))
+              (record {
+                eight = eight;
+                sizes = sizes;
+                sized = place-sized n (replyOf d n a .next) (keeps-sixteen (around d n) n (recordOf n (d .places)) a all-sixteen);
+                markFits = mark-word n (replyOf d n a .next) live-number;
+                held = block-lent d sizes eight words k k8 (h .held) ys (place n (replyOf d n a .next)) (λ _. y .replied .words);
+              })
               ∙ ap encode (sym (stream-put n k d at (good-places .apart) (replyOf d n a .next)));
           bytes = y .replied .bytes;
         })
@@ -128,16 +185,25 @@ module _ {words : List ℕ} {d : Device} (h : Encodes words d) where
     free : VacantAt k (d .places)
     free = vacant-found (d .places) k found
 
-    pub stream-added : {numbers ys : List ℕ} (b : Stream)
+    pub stream-added : {numbers ys : List ℕ} (b : Stream) → Sixteen (some b) → n < streamNumbers
         → numbers ≡ spentWords (spend n (decodeSpent (part blocksSize spentSize words)))
         → (part (placeSize * k) (placeSize * k + placeSize - placeSize * k) (withPart blocksSize spentSize words numbers) ≡ placeWords vacant → ys ≡ placeWords (occupied n b))
-        → withPart (placeSize * k) (placeSize * k + placeSize - placeSize * k) (withPart blocksSize spentSize words numbers) ys ≡ encode (putBack n (some b) d)
-    stream-added {numbers} {ys} b spends made =
+        → Unsettled (withPart (placeSize * k) (placeSize * k + placeSize - placeSize * k) (withPart blocksSize spentSize words numbers) ys) (withSpent (spend n (d .spent)) d) k (occupied n b)
+    stream-added {numbers} {ys} b all-slots below spends made =
         let s = spend n (d .spent) in
-        let left : withPart blocksSize spentSize words numbers ≡ encode (withSpent s d) =
+        let spent : withPart blocksSize spentSize words numbers ≡ encode (withSpent s d) =
         spent-lent d sizes eight words numbers s (h .held) (λ _. spends ∙ ap (λ (x : List Bool). spentWords (spend n x)) numbers-read) in
-        block-lent (withSpent s d) sizes eight _ k k8 left ys (occupied n b) (λ e. made (e ∙ ap placeWords (free .at)))
-        ∙ ap encode (sym (vacant-put n k b d free new))
+        record {
+          eight = eight;
+          sizes = sizes;
+          sized = queue-sized n b all-slots;
+          markFits = mark-word n (some b) below;
+          held = block-lent (withSpent s d) sizes eight _ k k8 spent ys (occupied n b) (λ e. made (e ∙ ap placeWords (free .at)));
+        }
+
+    -- once the figures are settled, it is put back
+    pub added-back : (b : Stream) → withPlaces (set (d .places) k (occupied n b)) (withSpent (spend n (d .spent)) d) ≡ putBack n (some b) d
+    added-back b = sym (vacant-put n k b d free new)
 
   pub created-served : {left room room′ : List ℕ} {written : ℕ} (n t : ℕ) (f : List ℕ) (b : Stream) → replyOf d n (command t f) ≡ reply (answerTo t n success ∷ []) (some b)
       → left ≡ encode (putBack n (some b) d) → Wrote room room′ 0 written (plainBytes t (responseType success) n) → Served d n (command t f) left room room′ 0 written

@@ -13,6 +13,7 @@ ghost use Rattle.stream.specs.Replied.{BlockOf, LiveBlock, requestTo, Replied};
 ghost use Rattle.device.specs.Served.{Encodes, DeviceWords, Served};
 use crate::places::add_stream;
 use crate::places::live_place;
+use crate::places::settle;
 use crate::places::unusable;
 use crate::places::vacant_place;
 use frame::Checked;
@@ -80,6 +81,7 @@ fn create(t: &mut [u32], stream: u32, ticket: u32, frame: &[u8], room: &mut [u8]
     };
     let format = frame::coded_format(frame);
     add_stream(t, k, stream, format);
+    settle(t, k);
     answer::put_plain(room, 0, ticket, OK, stream)
 }
 
@@ -100,14 +102,16 @@ fn to_live(
         return answer::put_plain(room, 0, ticket, INVALID_STREAM, stream);
     };
     let at = PLACE_WORDS * k;
-    in_block(
+    let written = in_block(
         &mut t[at..at + PLACE_WORDS],
         asked,
         stream,
         ticket,
         frame,
         room,
-    )
+    );
+    settle(t, k);
+    written
 }
 
 // A command to the live stream of a block.

@@ -7,6 +7,7 @@ ghost use Rattle.model.specs.Device.{Device};
 ghost use Rattle.model.specs.Steps.{finish, drained};
 ghost use Rattle.device.specs.Served.{Encodes, Served};
 use crate::places::live_place;
+use crate::places::settle;
 use protocol::ALL_FLAGS;
 use protocol::BAD_FLAGS;
 use protocol::Outcome;
@@ -36,7 +37,7 @@ pub fn finish(
         return refused(UNEXPECTED_REPORT);
     };
     let at = PLACE_WORDS * k;
-    completion::finish(
+    let outcome = completion::finish(
         &mut t[at..at + PLACE_WORDS],
         stream,
         queue,
@@ -44,7 +45,9 @@ pub fn finish(
         flags,
         timestamp,
         room,
-    )
+    );
+    settle(t, k);
+    outcome
 }
 
 // A drained report.
@@ -57,5 +60,7 @@ pub fn drained(t: &mut [u32], stream: u32, room: &mut [u8]) -> Outcome
         return refused(UNEXPECTED_REPORT);
     };
     let at = PLACE_WORDS * k;
-    completion::drained(&mut t[at..at + PLACE_WORDS], stream, room)
+    let outcome = completion::drained(&mut t[at..at + PLACE_WORDS], stream, room);
+    settle(t, k);
+    outcome
 }

@@ -1,16 +1,16 @@
 -- Laws of lists picked by a test, of any, all and how many of their elements, and of sorting by a key: by cases on the test, with `decide`.
-use mathlib.Core.Path.{_≡_, refl, sym, ap, ap₂, _∙_}
+use mathlib.Core.Path.{_≡_, refl, sym, ap, ap₂, _∙_, subst}
 use mathlib.Core.Bool.{Bool, true, false, cond, not, _&&_, _||_, and-comm, and-assoc, true≢false, false≢true}
 use mathlib.Core.Option.{Option, none, some}
 use mathlib.Core.List.{List, [], _∷_, _++_, map, append-assoc, append-nil, map-append}
 use Prim.Native.Nat.{ℕ, zero, suc, _+_, _<_, _≤_}
 use native.Mathlib.Omega.{arith}
 use native.Mathlib.Numerals.{add-one}
-use lib.ListN.{length, take, drop, getD}
+use lib.ListN.{length, take, drop, getD, set, length-append}
 use lib.Seq.{take-suc}
 use lib.Dec.{ltb, eqb}
 use borrow.Author.Tests.{eqb-true, ltb-true, ltb-false, lt-ltb, le-ltb, eqb-false, eq-eqb, ne-eqb, not-true}
-use Rattle.laws.specs.Lists.{keep, anyOf, allOf, Each, howMany, isEmpty, isNone, total}
+use Rattle.laws.specs.Lists.{keep, anyOf, allOf, Each, howMany, isEmpty, isNone, total, numbersBelow}
 use Rattle.laws.specs.Ascending.{below, notBelow, insertBy, ascending}
 use Rattle.laws.proofs.Tests.{both, and-left, and-right}
 
@@ -33,6 +33,10 @@ module _ {A : Type 0} where
   pub each-all : (p : A → Bool) (l : List A) → allOf p l ≡ true → Each (λ x. p x ≡ true) l
   each-all p [] e = tt
   each-all p (x ∷ l) e = (and-left (p x) (allOf p l) e, each-all p l (and-right (p x) (allOf p l) e))
+
+  pub each-behind : (P : A → Type 0) (l m : List A) → Each P (l ++ m) → Each P m
+  each-behind P [] m e = e
+  each-behind P (x ∷ l) m e = each-behind P l m (e .1)
 
 -- a number is its own equal, and unequal both ways
 pub eqb-same : (n : ℕ) → eqb n n ≡ true
@@ -135,6 +139,11 @@ module _ {A : Type 0} (p : A → Bool) where
   all-getD (x ∷ l) zero d e h = and-left (p x) (allOf p l) h
   all-getD (x ∷ l) (suc i) d e h = all-getD l i d e (and-right (p x) (allOf p l) h)
 
+  pub all-set : (l : List A) (i : ℕ) (y : A) → p y ≡ true → allOf p l ≡ true → allOf p (set l i y) ≡ true
+  all-set [] i y e h = refl
+  all-set (x ∷ l) zero y e h = both e (and-right (p x) (allOf p l) h)
+  all-set (x ∷ l) (suc i) y e h = both (and-left (p x) (allOf p l) h) (all-set l i y e (and-right (p x) (allOf p l) h))
+
   pub all-keep : (q : A → Bool) (l : List A) → allOf p l ≡ true → allOf p (keep q l) ≡ true
   all-keep q [] h = refl
   all-keep q (x ∷ l) h =
@@ -167,6 +176,10 @@ module _ {A : Type 0} (p : A → Bool) where
   pub length-split : (l : List A) → length (keep p l) + length (keep (λ x. not (p x)) l) ≡ length l
   length-split [] = refl
   length-split (x ∷ l) = decide (p x) (λ e. simp e (omega (arith, length-split l))) (λ e. simp e (omega (arith, length-split l)))
+
+-- a test that asks nothing counts each
+pub howMany-all : {A : Type 0} (l : List A) → howMany (λ x. true) l ≡ length l
+howMany-all l = howMany-length (λ x. true) l ∙ ap length (keep-const true l)
 
 -- the sum of two lists
 pub total-append : (l m : List ℕ) → total (l ++ m) ≡ total l + total m
@@ -342,3 +355,28 @@ howMany-map p f (x ∷ l) = omega (arith, howMany-map p f l)
 pub howMany-kept : {A : Type 0} (p q t : A → Bool) → ((x : A) → t x ≡ true → p x ≡ q x) → (l : List A) → howMany p (keep t l) ≡ howMany q (keep t l)
 howMany-kept p q t h [] = refl
 howMany-kept p q t h (x ∷ l) = decide (t x) (λ e. simp (e, h x e) (omega (arith, howMany-kept p q t h l))) (λ e. simp e (howMany-kept p q t h l))
+
+-- a list with another element at a place, and all elements changed
+pub map-set : {A B : Type 0} (f : A → B) (l : List A) (i : ℕ) (y : A) → map f (set l i y) ≡ set (map f l) i (f y)
+map-set f [] i y = refl
+map-set f (x ∷ l) zero y = refl
+map-set f (x ∷ l) (suc i) y = ap (λ r. f x ∷ r) (map-set f l i y)
+
+pub set-append-add : {A : Type 0} (l m : List A) (i : ℕ) (y : A) → set (l ++ m) (length l + i) y ≡ l ++ set m i y
+set-append-add [] m i y = ap (λ (k : ℕ). set m k y) (let none : 0 + i ≡ i = omega arith in none)
+set-append-add (x ∷ l) m i y = ap (λ (k : ℕ). set (x ∷ (l ++ m)) k y) (let next : suc (length l) + i ≡ suc (length l + i) = omega arith in next) ∙ ap (λ r. x ∷ r) (set-append-add l m i y)
+
+-- the numbers below n are n
+pub below-length : (n : ℕ) → length (numbersBelow n) ≡ n
+below-length zero = refl
+below-length (suc n) = omega (arith, length-append (numbersBelow n) (n ∷ []), below-length n)
+
+-- what holds of f of each of them, and of what follows, holds of f of every number below n
+pub each-below : (P : ℕ → Type 0) (f : ℕ → ℕ) (n : ℕ) (rest : List ℕ) → Each P (map f (numbersBelow n) ++ rest) → (i : ℕ) → i < n → P (f i)
+each-below P f zero rest e i h = absurd (omega (arith, h))
+each-below P f (suc n) rest e i h =
+    let front : Each P (map f (numbersBelow n) ++ f n ∷ rest) =
+    subst (Each P) (ap (λ (l : List ℕ). l ++ rest) (map-append f (numbersBelow n) (n ∷ [])) ∙ append-assoc (map f (numbersBelow n)) (f n ∷ []) rest) e in
+    decide (ltb i n)
+    (λ t. each-below P f n (f n ∷ rest) front i (ltb-true i n t))
+    (λ t. subst (λ (k : ℕ). P (f k)) (let last : n ≡ i = omega (arith, h, ltb-false i n t) in last) (each-behind P (map f (numbersBelow n)) (f n ∷ rest) front .0))

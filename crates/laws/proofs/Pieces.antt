@@ -5,9 +5,10 @@ use native.Mathlib.Numerals.{add-one}
 use native.Mathlib.Omega.{arith}
 use mathlib.Core.Path.{_≡_, refl, sym, ap, ap₂, _∙_}
 use mathlib.Core.Bool.{Bool, true, false, _&&_}
-use mathlib.Core.List.{List, [], _∷_, _++_, append-assoc, append-nil}
+use mathlib.Core.List.{List, [], _∷_, _++_, map, append-assoc, append-nil}
 use lib.ListN.{length, getD, set, take, drop, length-append, length-drop}
 use lib.Seq.{take-at, drop-at, drop-drop, take-suc}
+use lib.Dec.{eqb}
 use Rattle.laws.specs.Lists.{allOf, same}
 use Rattle.laws.specs.Tests.{allBelow}
 use Rattle.laws.specs.Parts.{part, withPart, pieces, readPieces}
@@ -95,6 +96,14 @@ module _ {A : Type 0} (p : A → Bool) (d : A) where
   unfolding allBelow
   all-places [] = refl
   all-places (x ∷ l) = ap (λ (b : Bool). p x && b) (all-places l) ∙ sym (below-front (λ i. p (getD (x ∷ l) i d)) (length l))
+
+-- numbers are those of the elements exactly where each is that of its place
+pub same-places : {A : Type 0} (d : A) (f : A → ℕ) (w : List ℕ) (l : List A) → length w ≡ length l → same w (map f l) ≡ allBelow (length l) (λ i. eqb (getD w i 0) (f (getD l i d)))
+unfolding same allBelow
+same-places d f [] [] h = refl
+same-places d f [] (x ∷ l) h = absurd (omega arith)
+same-places d f (v ∷ w) [] h = absurd (omega arith)
+same-places d f (v ∷ w) (x ∷ l) h = ap (λ (b : Bool). eqb v (f x) && b) (same-places d f w l (omega arith)) ∙ sym (below-front (λ i. eqb (getD (v ∷ w) i 0) (f (getD (x ∷ l) i d))) (length l))
 
 -- words are those of the elements that they are read as exactly where each piece is
 module _ {A : Type 0} (f : A → List ℕ) (k : ℕ) (len : (x : A) → length (f x) ≡ k) (g : List ℕ → A) where

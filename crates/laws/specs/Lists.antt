@@ -1,5 +1,5 @@
 -- Lists picked by a test, tests of any or all of their elements, counts, and numbers that stand once.
-use Prim.Native.Nat.{ℕ, suc, _+_}
+use Prim.Native.Nat.{ℕ, zero, suc, _+_}
 use mathlib.Core.Bool.{Bool, true, false, cond, not, _&&_}
 use mathlib.Core.Option.{Option, none, some}
 use mathlib.Core.List.{List, [], _∷_, _++_}
@@ -83,3 +83,8 @@ distinct (n ∷ l) = not (standsIn n l) && distinct l
 abbrev pub total : List ℕ → ℕ
 total [] = 0
 total (v ∷ vs) = v + total vs
+
+-- the numbers below n, ascending
+abbrev pub numbersBelow : ℕ → List ℕ
+numbersBelow zero = []
+numbersBelow (suc n) = numbersBelow n ++ n ∷ []

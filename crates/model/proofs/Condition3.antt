@@ -5,15 +5,15 @@ use mathlib.Core.Path.{_≡_, refl, sym, ap, ap₂, _∙_, subst}
 use mathlib.Core.Bool.{Bool, true, false, cond, not, _&&_, _||_}
 use mathlib.Core.Option.{Option, none, some}
 use mathlib.Core.List.{List, [], _∷_, _++_, map, tail-eq-of-cons-eq}
-use lib.ListN.{length}
+use lib.ListN.{length, length-append, length-map}
 use lib.Dec.{eqb, ltb}
 use borrow.Author.Tests.{eqb-true, le-ltb, ne-eqb}
-use Rattle.laws.specs.Lists.{keep, anyOf, allOf, howMany, isNone}
+use Rattle.laws.specs.Lists.{keep, anyOf, allOf, howMany, isNone, toList}
 use Rattle.laws.proofs.Tests.{never, both, and-left, and-right}
-use Rattle.laws.proofs.Lists.{decide, eqb-same, keep-comm, keep-append, keep-excluded, all-append, all-keep, howMany-append, howMany-split, howMany-map, howMany-kept}
+use Rattle.laws.proofs.Lists.{decide, eqb-same, keep-comm, keep-append, keep-excluded, all-append, all-keep, howMany-append, howMany-all, howMany-split, howMany-map, howMany-kept}
 use Rattle.laws.proofs.Ascending.{ascending-howMany}
 use Rattle.field.specs.Field.{field, littleEndian}
-use Rattle.model.specs.Device.{QueueType, input, output, Stream, Device, fresh, Buffer, queuedIn, byResource, recordOf}
+use Rattle.model.specs.Device.{QueueType, input, output, Stream, Device, fresh, Buffer, queuedIn, byResource, recordOf, pendingOf}
 use Rattle.model.specs.Frames.{queueNumber}
 use Rattle.model.specs.Answers.{Answer, responseOf, bytesOf, Written, rewritten, answersIn}
 use Rattle.model.specs.Replies.{Reply}
@@ -295,6 +295,28 @@ module _ (p : Outstanding → Bool) where
   agree-pending : (d : Device) (l : Ledger) (n : ℕ) → Agree d l → howMany p (outstandingTo n l) ≡ howMany p (outstandingIn (recordOf n (d .places)))
   agree-pending d l n g = by-ledger (keep (isTo n) l) (all-keep (awaits known) (isTo n) l (g .knows)) ∙ ap inView (g .sameView n) ∙ by-record (recordOf n (d .places))
 
+-- and how many these are is what going through the record gives
+length-record : (r : Option Stream) → pendingOf r ≡ length (outstandingIn r)
+length-record none = refl
+length-record (some b) =
+    let ins = outstandingBuffers 0x100 (queuedIn (b .inputs .slots)) in
+    let outs = outstandingBuffers 0x101 (queuedIn (b .outputs .slots)) in
+    omega (
+      arith,
+      length-append ins (outs ++ outstandingDrain (b .draining)),
+      length-append outs (outstandingDrain (b .draining)),
+      length-map (queuedIn (b .inputs .slots)) (bufferOutstanding 0x100),
+      length-map (queuedIn (b .outputs .slots)) (bufferOutstanding 0x101),
+      length-map (toList (b .draining)) (λ (t : ℕ). outstanding t toDrain),
+    )
+
+pub agree-figure : (d : Device) (l : Ledger) (n : ℕ) → Agree d l → pendingOf (recordOf n (d .places)) ≡ length (outstandingTo n l)
+agree-figure d l n g =
+    length-record (recordOf n (d .places))
+    ∙ sym (howMany-all (outstandingIn (recordOf n (d .places))))
+    ∙ sym (agree-pending (λ _. true) d l n g)
+    ∙ howMany-all (outstandingTo n l)
+
 -- Each is answered once or pending once
 
 howMany-inOrder : (p : Pending → Bool) (l : List Pending) → allOf (awaits known) l ≡ true → howMany p (inOrder l) ≡ howMany p l
@@ -439,10 +461,11 @@ destroyed-from j k l (y ∷ before) later e t f i a x acc = destroyed-from j (su
 pub condition3 : OnDevices
 condition3 ss m =
     record {
-      isolated = λ n. isolated n ss;
+      isolated = λ n h. let a = isolated n ss h in (a .0, a .1, ap pendingOf (a .1));
       wholeAnswers = all-whole fresh ss well-fresh m;
       answered = as-expected 0 fresh [] ss agree-fresh m;
       pendingExactly = λ n p. agree-pending p (final fresh ss) (ledgerOf (eventsOf fresh ss)) n (agree-end 0 fresh [] ss agree-fresh m);
+      figureExactly = λ n. agree-figure (final fresh ss) (ledgerOf (eventsOf fresh ss)) n (agree-end 0 fresh [] ss agree-fresh m);
       once = λ before later e split acc h.
           let j = length before in
           omega (

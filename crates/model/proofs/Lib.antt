@@ -9,10 +9,12 @@ pub mod Seen
 pub mod Isolation
 pub mod Origins
 pub mod Full
+pub mod Sizes
 pub mod WellFormed
 pub mod ReadBack
 pub mod Room
 pub mod Condition3
+pub mod Figures
 pub mod Tables
 pub mod Refusals
 pub mod Unchanged

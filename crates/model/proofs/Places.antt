@@ -13,7 +13,7 @@ use Rattle.model.specs.Device.{Stream, Place, vacant, occupied, placeNum
 use Rattle.model.specs.WellFormed.{distinctPlaces}
 
 -- a number is distinct from those of other places where it has no record there
-no-record : (n : ℕ) (ps : List Place) → not (standsIn n (numbersIn placeNumber ps)) ≡ isNone (recordOf n ps)
+pub no-record : (n : ℕ) (ps : List Place) → not (standsIn n (numbersIn placeNumber ps)) ≡ isNone (recordOf n ps)
 no-record n [] = refl
 no-record n (vacant ∷ ps) = no-record n ps
 no-record n (occupied m b ∷ ps) = decide (eqb m n) (λ e. simp e) (λ e. simp e (no-record n ps))

@@ -1,9 +1,11 @@
--- A queue's slots: what is Queued after each change, and that numbers stay distinct.
-use Prim.Native.Nat.{ℕ}
+-- A queue's slots: what is Queued after each change, that numbers stay distinct, and that no slot goes.
+use Prim.Native.Nat.{ℕ, suc, _≤_}
+use native.Mathlib.Omega.{arith}
 use mathlib.Core.Path.{_≡_, refl, sym, ap, _∙_}
 use mathlib.Core.Bool.{Bool, true, false, not}
 use mathlib.Core.Option.{none, some}
 use mathlib.Core.List.{List, [], _∷_}
+use lib.ListN.{length}
 use lib.Dec.{eqb}
 use borrow.Author.Tests.{eqb-true}
 use Rattle.laws.specs.Lists.{keep}
@@ -134,3 +136,32 @@ pub distinct-add : (r : ℕ) (s : List Slot) → Distinct s → present r s ≡ 
 distinct-add r [] d a = tt
 distinct-add r (free ∷ s) d a = (a, d)
 distinct-add r (resource m q ∷ s) d a = (absent-add m r s (eqb-sym m r (absent-head r m q s a)) (d .0), distinct-add r s (d .1) (absent-tail r m q s a))
+
+-- No slot goes
+
+pub length-setState : (r : ℕ) (p : State) (s : List Slot) → length (setState r p s) ≡ length s
+length-setState r p [] = refl
+length-setState r p (free ∷ s) = ap suc (length-setState r p s)
+length-setState r p (resource m q ∷ s) = ap suc (length-setState r p s)
+
+pub length-stop : (s : List Slot) → length (stopAll s) ≡ length s
+length-stop [] = refl
+length-stop (free ∷ s) = ap suc (length-stop s)
+length-stop (resource m q ∷ s) = ap suc (length-stop s)
+
+pub length-free : (s : List Slot) → length (freeAll s) ≡ length s
+length-free [] = refl
+length-free (p ∷ s) = ap suc (length-free s)
+
+pub length-add : (r : ℕ) (s : List Slot) → length (addResource r s) ≡ length s
+length-add r [] = refl
+length-add r (free ∷ s) = refl
+length-add r (resource m q ∷ s) = ap suc (length-add r s)
+
+-- no more is Queued than there are slots
+pub queued-most : (s : List Slot) → length (queuedIn s) ≤ length s
+queued-most [] = omega arith
+queued-most (free ∷ s) = omega (arith, queued-most s)
+queued-most (resource m created ∷ s) = omega (arith, queued-most s)
+queued-most (resource m (queued t ts) ∷ s) = omega (arith, queued-most s)
+queued-most (resource m dequeued ∷ s) = omega (arith, queued-most s)

@@ -19,7 +19,7 @@ pub none-beyond : (n : ℕ) (s : List Bool) → length s ≤ n → isSpent n s �
 unfolding isSpent
 none-beyond n s h = List·getD-eq-default s false h
 
-spent-below : (n : ℕ) (s : List Bool) → isSpent n s ≡ true → n < length s
+pub spent-below : (n : ℕ) (s : List Bool) → isSpent n s ≡ true → n < length s
 spent-below n s e = decide (ltb n (length s)) (λ h. ltb-true n (length s) h) (λ h. never (sym e ∙ none-beyond n s (ltb-false n (length s) h)))
 
 module _ (n : ℕ) (s : List Bool) where

@@ -13,7 +13,7 @@ use Rattle.laws.proofs.Tests.{never, both, and-left, and-right}
 use Rattle.laws.proofs.Lists.{decide, all-keep}
 use Rattle.laws.proofs.Same.{same-refl, same-true}
 use Rattle.model.specs.Numbers.{tableWords, answerRoom}
-use Rattle.model.specs.Device.{Device, fresh, recordOf}
+use Rattle.model.specs.Device.{Device, fresh, recordOf, pendingOf}
 use Rattle.model.specs.Answers.{bytesOf}
 use Rattle.model.specs.Steps.{Step, DeviceReply, perform, hostRefusal, stepOn, Event, eventOf, eventsOf, final}
 use Rattle.model.specs.WellFormed.{wellFormed, goodAct, goodSteps}
@@ -153,7 +153,9 @@ module _ (L : Layout) (law : Lawful L) (t : List ℕ) (h : tableWords ≤ length
       let records : L .decode (take tableWords (tableFinal L (freshen L t .table) ss)) ≡ final fresh ss =
       ap (λ (x : List ℕ). L .decode (take tableWords x)) (same-table ss m)
       ∙ device-is L law (drop tableWords t) (final fresh ss) (final-well fresh ss well-fresh m) in
-      λ i. record { events = same-events ss m i; records = λ n. recordOf n (records i .places) }
+      let figures : (n : ℕ) → L .figure (tableFinal L (freshen L t .table) ss) n ≡ pendingOf (recordOf n (final fresh ss .places)) =
+      λ n. ap (λ (x : List ℕ). L .figure x n) (same-table ss m) ∙ law .counts (final fresh ss) (final-well fresh ss well-fresh m) (drop tableWords t) n in
+      λ i. record { events = same-events ss m i; records = λ n. recordOf n (records i .places); figures = λ n. figures n i }
 
   end-valid : (ss : List Step) → goodSteps ss ≡ true → valid L (tableFinal L (freshen L t .table) ss) ≡ true
   end-valid ss m = ap (valid L) (same-table ss m) ∙ words-valid L law (drop tableWords t) (final fresh ss) (final-well fresh ss well-fresh m)
@@ -175,10 +177,11 @@ other-alone run alone alone′ same c =
     record {
       isolated = λ n h.
           let a = c .isolated n h in
-          (a .0 ∙ ap (λ (r : Run). r .events) (sym (same n)), a .1 ∙ ap (λ (r : Run). r .records n) (sym (same n)));
+          (a .0 ∙ ap (λ (r : Run). r .events) (sym (same n)), a .1 ∙ ap (λ (r : Run). r .records n) (sym (same n)), a .2 ∙ ap (λ (r : Run). r .figures n) (sym (same n)));
       wholeAnswers = c .wholeAnswers;
       answered = c .answered;
       pendingExactly = c .pendingExactly;
+      figureExactly = c .figureExactly;
       once = c .once;
       destroyed = c .destroyed;
     }

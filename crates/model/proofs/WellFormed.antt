@@ -24,7 +24,7 @@ use Rattle.model.specs.Steps.{Act, command, finish, drained, streamOf, s
 use Rattle.model.specs.WellFormed.{u8, u32, u64, goodState, goodSlot, distinctSlots, goodSlots, goodQueue, goodDrain, goodStream, goodPlace, distinctPlaces, goodPlaces, spentIn, goodSpent, wellFormed, goodAct}
 use Rattle.model.specs.Promises.{StaysWellFormed}
 use Rattle.field.proofs.Laws.{field-below}
-use Rattle.model.proofs.Slots.{Distinct, distinct-set, distinct-stop, distinct-free, distinct-add}
+use Rattle.model.proofs.Slots.{Distinct, distinct-set, distinct-stop, distinct-free, distinct-add, length-setState, length-stop, length-free, length-add}
 use Rattle.model.proofs.Origins.{command-cases, live-cases, finish-cases, drained-cases, step-cases}
 use Rattle.model.proofs.Places.{alone, alone-head, alone-tail, replace-other, replace-absent, install-other, all-record, all-put}
 use Rattle.model.proofs.Spent.{spend-same, spend-keeps}
@@ -69,11 +69,6 @@ slots-are s h =
 are-slots : (s : List Slot) → GoodSlots s → goodSlots s ≡ true
 are-slots s g = both (eq-eqb (length s) queueSlots (g .size)) (both (g .each) (of-distinct s (g .apart)))
 
-length-setState : (r : ℕ) (p : State) (s : List Slot) → length (setState r p s) ≡ length s
-length-setState r p [] = refl
-length-setState r p (free ∷ s) = ap suc (length-setState r p s)
-length-setState r p (resource m q ∷ s) = ap suc (length-setState r p s)
-
 each-set : (r : ℕ) (p : State) (s : List Slot) → goodState p ≡ true → allOf goodSlot s ≡ true → allOf goodSlot (setState r p s) ≡ true
 each-set r p [] g h = refl
 each-set r p (free ∷ s) g h = each-set r p s g h
@@ -84,11 +79,6 @@ each-set r p (resource m q ∷ s) g h =
 
 slots-set : (r : ℕ) (p : State) (s : List Slot) → goodState p ≡ true → GoodSlots s → GoodSlots (setState r p s)
 slots-set r p s h g = record { size = length-setState r p s ∙ g .size; each = each-set r p s h (g .each); apart = distinct-set r p s (g .apart) }
-
-length-stop : (s : List Slot) → length (stopAll s) ≡ length s
-length-stop [] = refl
-length-stop (free ∷ s) = ap suc (length-stop s)
-length-stop (resource m q ∷ s) = ap suc (length-stop s)
 
 stopped-good : (q : State) → goodState (stopped q) ≡ true
 stopped-good created = refl
@@ -104,21 +94,12 @@ each-stop (resource m q ∷ s) h =
 slots-stop : (s : List Slot) → GoodSlots s → GoodSlots (stopAll s)
 slots-stop s g = record { size = length-stop s ∙ g .size; each = each-stop s (g .each); apart = distinct-stop s (g .apart) }
 
-length-free : (s : List Slot) → length (freeAll s) ≡ length s
-length-free [] = refl
-length-free (p ∷ s) = ap suc (length-free s)
-
 each-free : (s : List Slot) → allOf goodSlot (freeAll s) ≡ true
 each-free [] = refl
 each-free (p ∷ s) = each-free s
 
 slots-free : (s : List Slot) → GoodSlots s → GoodSlots (freeAll s)
 slots-free s g = record { size = length-free s ∙ g .size; each = each-free s; apart = distinct-free s }
-
-length-add : (r : ℕ) (s : List Slot) → length (addResource r s) ≡ length s
-length-add r [] = refl
-length-add r (free ∷ s) = refl
-length-add r (resource m q ∷ s) = ap suc (length-add r s)
 
 each-add : (r : ℕ) (s : List Slot) → u32 r ≡ true → allOf goodSlot s ≡ true → allOf goodSlot (addResource r s) ≡ true
 each-add r [] g h = refl

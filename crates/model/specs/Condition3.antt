@@ -9,17 +9,19 @@ use lib.Dec.{eqb, ltb}
 use Rattle.laws.specs.Lists.{keep, anyOf, howMany, isNone}
 use Rattle.field.specs.Field.{field}
 use Rattle.model.specs.Numbers.{tableWords}
-use Rattle.model.specs.Device.{Stream, fresh, recordOf}
+use Rattle.model.specs.Device.{Stream, fresh, recordOf, pendingOf}
 use Rattle.model.specs.Answers.{rewritten}
 use Rattle.model.specs.Steps.{command, Step, Event, eventsOf, final, answersOf, belongs, accepted, outOfMemoryAt}
 use Rattle.model.specs.Ledger.{awaitedBy, Pending, ledgerOf, AsExpected, ofStep, answersTo, Outstanding, outstandingTo, outstandingIn}
 use Rattle.model.specs.WellFormed.{goodSteps}
 use Rattle.model.specs.Tables.{Layout, valid, freshen, tableEvents, tableFinal}
 
--- what a list of steps from a fresh start shows: its events, and each stream's record at the end, or that there is none
+-- what a list of steps from a fresh start shows: its events, each stream's record at the end, or that there is none, and the figure that a question for the
+-- stream then gives
 pub record Run : Type 0 where
   pub events : List Event
   pub records : ℕ → Option Stream
+  pub figures : ℕ → ℕ
 
 -- a stream's own events
 abbrev pub ownEvents : ℕ → List Event → List Event
@@ -40,17 +42,20 @@ InWholeAnswers (e ∷ es) = (rewritten (answersOf e) ≡ e .bytes) × (e .writte
 
 -- `run` is what the whole list shows, `alone` what any steps show that are run by themselves
 pub record Condition3 (run : Run) (alone : List Step → Run) : Type 0 where
-  -- Where none of its creations was answered 'out of memory', a stream's results, byte counts, written bytes and final record are those
+  -- Where none of its creations was answered 'out of memory', a stream's results, byte counts, written bytes, final record and figure are those
   -- of its own steps, with the same rooms, run alone.
   pub isolated : (n : ℕ) → anyOf outOfMemoryAt (ownEvents n (run .events)) ≡ false
       → (ownEvents n (run .events) ≡ alone (stepsOf (ownEvents n (run .events))) .events)
       × (run .records n ≡ alone (stepsOf (ownEvents n (run .events))) .records n)
+      × (run .figures n ≡ alone (stepsOf (ownEvents n (run .events))) .figures n)
   -- The bytes of each step are exactly the answers that are read in them, and its byte count is how many bytes they are.
   pub wholeAnswers : InWholeAnswers (run .events)
   -- Each step writes exactly one answer for each pending one that it completes, in order and under its ticket, and then its own.
   pub answered : AsExpected 0 [] (run .events)
   -- What stays pending is, apart from step numbers, exactly the Queued buffers and pending drains of the records, duplicates counted.
   pub pendingExactly : (n : ℕ) (p : Outstanding → Bool) → howMany p (outstandingTo n (ledgerOf (run .events))) ≡ howMany p (outstandingIn (run .records n))
+  -- A stream's figure is how many these are.
+  pub figureExactly : (n : ℕ) → run .figures n ≡ length (outstandingTo n (ledgerOf (run .events)))
   -- The answer to an accepted queueing or drain was given once, or is pending once.
   pub once : (before later : List Event) (e : Event) → run .events ≡ before ++ e ∷ later → accepted e ≡ true → isNone (awaitedBy (e .step .act)) ≡ false
       → answersTo (length before) 0 [] (run .events) + howMany (ofStep (length before)) (ledgerOf (run .events)) ≡ 1
@@ -63,7 +68,9 @@ pub record Condition3 (run : Run) (alone : List Step → Run) : Type 0 where
 
 -- a list on a fresh device
 abbrev pub onDevice : List Step → Run
-onDevice ss = record { events = eventsOf fresh ss; records = λ n. recordOf n (final fresh ss .places) }
+onDevice ss =
+    let left = final fresh ss .places in
+    record { events = eventsOf fresh ss; records = λ n. recordOf n left; figures = λ n. pendingOf (recordOf n left) }
 
 -- condition 3 for every list in the host's types
 abbrev pub OnDevices : Type 0
@@ -75,7 +82,8 @@ OnDevices = (ss : List Step) → goodSteps ss ≡ true → Condition3 (onDevice 
 abbrev pub onTable : Layout → List ℕ → List Step → Run
 onTable L t ss =
     let start = freshen L t .table in
-    record { events = tableEvents L start ss; records = λ n. recordOf n (L .decode (take tableWords (tableFinal L start ss)) .places) }
+    let left = tableFinal L start ss in
+    record { events = tableEvents L start ss; records = λ n. recordOf n (L .decode (take tableWords left) .places); figures = λ n. L .figure left n }
 
 -- condition 3 for every list, and the table is valid at its end
 abbrev pub OnTables : Layout → Type 0

@@ -1,13 +1,13 @@
 -- What a table stands for: eight places for the records of live streams, in each record two queues of sixteen slots for resources, and which
 -- stream numbers are spent.
 -- A place is document 01's own word; it calls a slot a place too, and a pending drain an owed one.
-use Prim.Native.Nat.{ℕ}
+use Prim.Native.Nat.{ℕ, _+_}
 use mathlib.Core.Bool.{Bool, true, false, cond, not, _&&_}
 use mathlib.Core.Option.{Option, none, some}
-use mathlib.Core.List.{List, [], _∷_}
-use lib.ListN.{replicate, getD, set}
+use mathlib.Core.List.{List, [], _∷_, map}
+use lib.ListN.{length, replicate, getD, set}
 use lib.Dec.{eqb}
-use Rattle.laws.specs.Lists.{isEmpty, isNone, numbersIn, standsIn}
+use Rattle.laws.specs.Lists.{isEmpty, isNone, toList, numbersIn, standsIn, total}
 use Rattle.laws.specs.Ascending.{ascending}
 use Rattle.model.specs.Numbers.{streamPlaces, queueSlots, streamNumbers}
 
@@ -209,6 +209,26 @@ install n r (occupied m b ∷ ps) = occupied m b ∷ install n r ps
 -- the record of n put back after a step of n
 unfoldable pub putRecord : ℕ → Option Stream → List Place → List Place
 putRecord n r ps = cond (isNone (recordOf n ps)) (install n r ps) (replace n r ps)
+
+-- How many answers are pending, got by going through every resource and drain (document 02: owed)
+
+-- to a stream: one for each Queued buffer of either queue, and one for a pending drain
+abbrev pub pendingTo : Stream → ℕ
+pendingTo b = length (queuedIn (b .inputs .slots)) + (length (queuedIn (b .outputs .slots)) + length (toList (b .draining)))
+
+-- to a stream number: by its record, and none where it is not live
+abbrev pub pendingOf : Option Stream → ℕ
+pendingOf none = 0
+pendingOf (some b) = pendingTo b
+
+-- to the stream of a place
+abbrev pub pendingAt : Place → ℕ
+pendingAt vacant = 0
+pendingAt (occupied n b) = pendingTo b
+
+-- in all
+abbrev pub pendingInAll : List Place → ℕ
+pendingInAll ps = total (map pendingAt ps)
 
 -- Spent numbers
 

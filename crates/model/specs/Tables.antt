@@ -7,20 +7,24 @@ use lib.ListN.{length, take, drop}
 use lib.Dec.{eqb, ltb}
 use Rattle.laws.specs.Lists.{same}
 use Rattle.model.specs.Numbers.{tableWords}
-use Rattle.model.specs.Device.{Device, fresh}
+use Rattle.model.specs.Device.{Device, fresh, recordOf, pendingOf}
 use Rattle.model.specs.Answers.{bytesOf}
 use Rattle.model.specs.Steps.{Act, Step, DeviceReply, perform, hostRefusal, Event}
 use Rattle.model.specs.WellFormed.{wellFormed}
 
--- the words of a device, and the device that words stand for
+-- the words of a device, the device that words stand for, and the figure that a question for a stream gives on a table: how many answers are
+-- pending to it (document 02)
 pub record Layout : Type 0 where
   pub encode : Device → List ℕ
   pub decode : List ℕ → Device
+  pub figure : List ℕ → ℕ → ℕ
 
--- the two laws of a layout: a well-formed device fills the used words, and is read back from them
+-- the laws of a layout: a well-formed device fills the used words, and is read back from them; on its words, whatever stands behind them, a question gives
+-- what going through every resource and drain gives
 pub record Lawful (L : Layout) : Type 0 where
   pub size : (d : Device) → wellFormed d ≡ true → length (L .encode d) ≡ tableWords
   pub back : (d : Device) → wellFormed d ≡ true → L .decode (L .encode d) ≡ d
+  pub counts : (d : Device) → wellFormed d ≡ true → (rest : List ℕ) (n : ℕ) → L .figure (L .encode d ++ rest) n ≡ pendingOf (recordOf n (d .places))
 
 -- the result (refusal number or 0, bytes written), and what stands in the lent table and in the lent room afterwards
 pub record Effect : Type 0 where

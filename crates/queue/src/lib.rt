@@ -14,6 +14,7 @@ pub use changes::stop_all;
 pub use changes::store_parameters;
 pub use changes::width;
 pub use search::any_queued;
+pub use search::count_queued;
 pub use search::find_free;
 pub use search::find_resource;
 pub use search::next_queued;

@@ -1,7 +1,7 @@
 // Searches of a queue's slots.
 ghost use mathlib.Core.Path.{_≡_};
 ghost use mathlib.Core.Bool.{not};
-ghost use Prim.Native.Nat.{_+_, _<_};
+ghost use Prim.Native.Nat.{_+_, _<_, _≤_};
 ghost use lib.ListN.{length, drop};
 ghost use Rattle.laws.specs.Lists.{isEmpty};
 ghost use Rattle.model.specs.Device.{Queue, queuedIn, noResource};
@@ -64,6 +64,23 @@ pub fn any_queued(q: &[u32]) -> bool
         i += 1;
     }
     false
+}
+
+// How many buffers are Queued.
+pub fn count_queued(q: &[u32]) -> u32
+    requires { ⌜ length (now q) ≡ 84 ⌝ }
+    ensures within { λ r. ⌜ r ≤ 16 ⌝ }
+    ensures counted { λ r. ⌜ ((Q : Queue) → now (q .entry) ≡ queueWords Q → r ≡ length (queuedIn (Q .slots))) ⌝ }
+{
+    let mut count = 0;
+    let mut i = 0;
+    while i < SLOTS {
+        if slot_queued(q, i) {
+            count += 1;
+        }
+        i += 1;
+    }
+    count
 }
 
 // Whether no slot holds a resource.

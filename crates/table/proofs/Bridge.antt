@@ -15,7 +15,7 @@ use Rattle.model.specs.Device.{Stream, Place, vacant, occupied, Device, recordO
 use Rattle.model.specs.WellFormed.{distinctPlaces}
 use Rattle.model.proofs.Places.{alone-head, alone-tail, replace-absent}
 use Rattle.table.specs.Search.{placeAt, isStream, findStream, findVacant}
-use Rattle.table.proofs.Records.{withPlaces, withSpent}
+use Rattle.table.specs.Blocks.{withPlaces, withSpent}
 
 some-is : {k : ℕ} → _≡_ {A = Option ℕ} (some 0) (some k) → k ≡ 0
 some-is e = cc

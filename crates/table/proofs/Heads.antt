@@ -24,6 +24,10 @@ pub live-word : (l : List ℕ) (n : ℕ) (b : Stream) → l ≡ placeWords (occu
 unfolding placeWords headWords
 live-word l n b e = ap (λ (x : List ℕ). getD x 0 0) e
 
+pub stream-word : (l : List ℕ) (n : ℕ) (b : Stream) → l ≡ placeWords (occupied n b) → getD l 1 0 ≡ n
+unfolding placeWords headWords
+stream-word l n b e = ap (λ (x : List ℕ). getD x 1 0) e
+
 -- a live stream's block starts with 1 and its number, and a vacant one with zeros
 pub stream-starts : (n : ℕ) (p : Place) → headIs 1 n (placeWords p) ≡ isStream n p
 unfolding headIs placeWords headWords

@@ -1,5 +1,6 @@
 pub mod Bits
 pub mod Records
+pub mod Counted
 pub mod Theorems
 pub mod Full
 pub mod Bridge

@@ -2,11 +2,11 @@
 use mathlib.Core.Path.{_≡_, refl, sym, ap, ap₂, _∙_}
 use mathlib.Core.Bool.{Bool, true, false}
 use mathlib.Core.Option.{Option, none, some}
-use mathlib.Core.List.{List, _++_, append-assoc}
+use mathlib.Core.List.{List, _++_, map, append-assoc}
 use Prim.Native.Nat.{ℕ, _+_, _*_, _-_, _<_, _≤_}
 use native.Mathlib.Nat.{add-sub-cancel-left}
 use native.Mathlib.Omega.{arith}
-use lib.ListN.{length, getD, set, take, length-append}
+use lib.ListN.{length, getD, set, take, length-append, length-map}
 use lib.Seq.{take-at}
 use lib.Dec.{eqb}
 use borrow.Author.Tests.{eq-eqb, eqb-true}
@@ -15,12 +15,13 @@ use Rattle.laws.specs.Parts.{part, withPart, zeros}
 use Rattle.laws.proofs.Tests.{both, and-left, and-right}
 use Rattle.laws.proofs.Parts.{zero-length, zero-at, part-mid, withPart-mid, part-front, withPart-front, lent}
 use Rattle.laws.proofs.Pieces.{pieces-length, pieces-part, pieces-withPart, pieces-read}
-use Rattle.model.specs.Numbers.{tableWords, streamNumbers}
-use Rattle.model.specs.Device.{QueueType, input, output, Queue, Stream, Place, vacant, occupied, Device, queueOf, withQueue}
+use Rattle.model.specs.Numbers.{tableWords, streamPlaces, streamNumbers}
+use Rattle.model.specs.Device.{QueueType, input, output, Queue, Stream, Place, vacant, occupied, Device, queueOf, withQueue, pendingAt}
 use Rattle.queue.specs.Words.{queueWords, decodeQueue}
 use Rattle.queue.proofs.Records.{queue-length, decode-queue}
 use Rattle.table.specs.Spent.{spentSize, spentWords, decodeSpent}
-use Rattle.table.specs.Blocks.{queueStart, drainWords, headWords, placeWords, blocks, blocksSize, unusedSize, behind, encode, drainIn, decodePlace, placesIn, decode}
+use Rattle.table.specs.Figures.{totalAt, figuresSize, placeMark, figureWords}
+use Rattle.table.specs.Blocks.{queueStart, drainWords, headWords, placeWords, blocks, blocksSize, gapSize, unusedSize, behind, encode, withPlaces, withSpent, unsettled, drainIn, decodePlace, placesIn, decode}
 use Rattle.table.specs.Search.{placeAt, hasAllSlots}
 use Rattle.table.proofs.Bits.{spent-length, decode-spent}
 
@@ -114,39 +115,43 @@ pub place-read : (l : List ℕ) (ps : List Place) (k : ℕ) → length l ≡ blo
     → part (512 * k) (512 * k + 512 - 512 * k) l ≡ placeWords (placeAt k ps)
 place-read l ps k long h s e = rw (e, add-sub-cancel-left (512 * k) 512) (place-part ps k s (omega (arith, held-places l ps s long e)))
 
--- The blocks and the spent numbers in the used words
+-- The words behind the blocks
 
--- the device with other places, and with other spent numbers
-abbrev pub withPlaces : List Place → Device → Device
-withPlaces ps d = record { places = ps; spent = d .spent }
+pub figure-length : (ps : List Place) → length ps ≡ streamPlaces → length (figureWords ps) ≡ figuresSize
+unfolding figureWords
+figure-length ps eight = omega (arith, length-append (map placeMark ps) (map pendingAt ps), length-map ps placeMark, length-map ps pendingAt)
 
-abbrev pub withSpent : List Bool → Device → Device
-withSpent s d = record { places = d .places; spent = s }
+-- the figures and the words without use around them
+abbrev rest : List Place → List ℕ
+rest ps = zeros gapSize ++ (figureWords ps ++ zeros unusedSize)
 
-behind-length : (d : Device) → length (behind d) ≡ spentSize + unusedSize
+behind-length : (s : List Bool) (ps : List Place) → length ps ≡ streamPlaces → length (behind s ps) ≡ tableWords - blocksSize
 unfolding behind
-behind-length d = simp (length-append, spent-length, zero-length)
+behind-length s ps eight = simp (length-append, spent-length, zero-length, figure-length ps eight)
 
 module _ (d : Device) (s : allOf hasAllSlots (d .places) ≡ true) (eight : length (d .places) ≡ 8) where
   all-blocks : length (blocks (d .places)) ≡ blocksSize
   all-blocks = omega (arith, blocks-length (d .places) s)
 
+  abbrev after : List ℕ
+  after = behind (d .spent) (d .places)
+
   pub used-length : length (encode d) ≡ tableWords
   unfolding encode
-  used-length = omega (arith, length-append (blocks (d .places)) (behind d), all-blocks, behind-length d)
+  used-length = omega (arith, length-append (blocks (d .places)) after, all-blocks, behind-length (d .spent) (d .places) eight)
 
   pub blocks-front : take blocksSize (encode d) ≡ blocks (d .places)
   unfolding encode
-  blocks-front = take-at (blocks (d .places)) (behind d) blocksSize all-blocks
+  blocks-front = take-at (blocks (d .places)) after blocksSize all-blocks
 
   -- the words of the spent numbers, which are lent and come back as those of s′
   pub spent-part : part blocksSize spentSize (encode d) ≡ spentWords (d .spent)
   unfolding encode behind
-  spent-part = part-mid (blocks (d .places)) (spentWords (d .spent)) (zeros unusedSize) blocksSize spentSize all-blocks (spent-length (d .spent))
+  spent-part = part-mid (blocks (d .places)) (spentWords (d .spent)) (rest (d .places)) blocksSize spentSize all-blocks (spent-length (d .spent))
 
   spent-put : (s′ : List Bool) → withPart blocksSize spentSize (encode d) (spentWords s′) ≡ encode (withSpent s′ d)
   unfolding encode behind
-  spent-put s′ = withPart-mid (blocks (d .places)) (spentWords (d .spent)) (zeros unusedSize) blocksSize spentSize all-blocks (spent-length (d .spent)) (spentWords s′)
+  spent-put s′ = withPart-mid (blocks (d .places)) (spentWords (d .spent)) (rest (d .places)) blocksSize spentSize all-blocks (spent-length (d .spent)) (spentWords s′)
 
   pub spent-lent : (l ys : List ℕ) (s′ : List Bool) → l ≡ encode d → (part blocksSize spentSize l ≡ spentWords (d .spent) → ys ≡ spentWords s′)
       → withPart blocksSize spentSize l ys ≡ encode (withSpent s′ d)
@@ -154,26 +159,66 @@ module _ (d : Device) (s : allOf hasAllSlots (d .places) ≡ true) (eight : leng
       lent blocksSize (blocksSize + spentSize) spentSize l (spentWords (d .spent)) (spentWords s′) (encode (withSpent s′ d)) ys (add-sub-cancel-left blocksSize spentSize)
       (ap (part blocksSize spentSize) e ∙ spent-part) (ap (λ (w : List ℕ). withPart blocksSize spentSize w (spentWords s′)) e ∙ spent-put s′) f
 
-  -- a block is lent, and comes back as that of p
+  -- a block is lent, and comes back as that of p; the figures are then not yet those of the places
   module _ (l : List ℕ) (k : ℕ) (h : k < 8) (e : l ≡ encode d) where
     ends : 512 * k + 512 ≤ length (blocks (d .places))
     ends = omega (arith, all-blocks)
 
     pub block-part : part (512 * k) 512 l ≡ placeWords (placeAt k (d .places))
     unfolding encode
-    block-part = rw e (part-front (blocks (d .places)) (behind d) (512 * k) 512 ends ∙ place-part (d .places) k s (omega arith))
+    block-part = rw e (part-front (blocks (d .places)) after (512 * k) 512 ends ∙ place-part (d .places) k s (omega arith))
 
-    block-put : (p : Place) → withPart (512 * k) 512 l (placeWords p) ≡ encode (withPlaces (set (d .places) k p) d)
-    unfolding encode behind
+    block-put : (p : Place) → withPart (512 * k) 512 l (placeWords p) ≡ unsettled (set (d .places) k p) d
+    unfolding encode unsettled
     block-put p =
-        rw e (withPart-front (blocks (d .places)) (behind d) (512 * k) 512 ends (placeWords p)
-        ∙ ap (λ (w : List ℕ). w ++ behind d) (place-put (d .places) k s (omega arith) p))
+        rw e (withPart-front (blocks (d .places)) after (512 * k) 512 ends (placeWords p)
+        ∙ ap (λ (w : List ℕ). w ++ after) (place-put (d .places) k s (omega arith) p))
 
     pub block-lent : (ys : List ℕ) (p : Place) → (part (512 * k) (512 * k + 512 - 512 * k) l ≡ placeWords (placeAt k (d .places)) → ys ≡ placeWords p)
-        → withPart (512 * k) (512 * k + 512 - 512 * k) l ys ≡ encode (withPlaces (set (d .places) k p) d)
+        → withPart (512 * k) (512 * k + 512 - 512 * k) l ys ≡ unsettled (set (d .places) k p) d
     block-lent ys p =
-        lent (512 * k) (512 * k + 512) 512 l (placeWords (placeAt k (d .places))) (placeWords p) (encode (withPlaces (set (d .places) k p) d)) ys
+        lent (512 * k) (512 * k + 512) 512 l (placeWords (placeAt k (d .places))) (placeWords p) (unsettled (set (d .places) k p) d) ys
         (add-sub-cancel-left (512 * k) 512) block-part (block-put p)
+
+-- The figures of the places qs, behind the blocks of the places ps
+
+module _ (ps qs : List Place) (s : List Bool) (sized : allOf hasAllSlots ps ≡ true) (eight : length ps ≡ 8) (as-many : length qs ≡ 8) where
+  abbrev front-words : List ℕ
+  front-words = blocks ps ++ (spentWords s ++ zeros gapSize)
+
+  front-words-length : length front-words ≡ totalAt
+  front-words-length = omega (arith, length-append (blocks ps) (spentWords s ++ zeros gapSize), length-append (spentWords s) (zeros gapSize), blocks-length ps sized, spent-length s, zero-length gapSize)
+
+  pub figures-seam : blocks ps ++ behind s qs ≡ front-words ++ (figureWords qs ++ zeros unusedSize)
+  unfolding behind
+  figures-seam = simp append-assoc
+
+  figures-in : part totalAt figuresSize (blocks ps ++ behind s qs) ≡ figureWords qs
+  figures-in = ap (part totalAt figuresSize) figures-seam ∙ part-mid front-words (figureWords qs) (zeros unusedSize) totalAt figuresSize front-words-length (figure-length qs as-many)
+
+  figures-put : withPart totalAt figuresSize (blocks ps ++ behind s qs) (figureWords ps) ≡ blocks ps ++ behind s ps
+  unfolding behind
+  figures-put =
+      ap (λ (w : List ℕ). withPart totalAt figuresSize w (figureWords ps)) figures-seam
+      ∙ withPart-mid front-words (figureWords qs) (zeros unusedSize) totalAt figuresSize front-words-length (figure-length qs as-many) (figureWords ps)
+      ∙ simp append-assoc
+
+-- a block is read before they are settled
+pub unsettled-read : (d : Device) (ps : List Place) (k : ℕ) (l : List ℕ) → allOf hasAllSlots ps ≡ true → length ps ≡ 8 → k < 8 → l ≡ unsettled ps d
+    → part (512 * k) (512 * k + 512 - 512 * k) l ≡ placeWords (placeAt k ps)
+unfolding unsettled
+unsettled-read d ps k l sized eight h e =
+    rw (e, add-sub-cancel-left (512 * k) 512)
+    (part-front (blocks ps) (behind (d .spent) (d .places)) (512 * k) 512 (omega (arith, blocks-length ps sized)) ∙ place-part ps k sized (omega arith))
+
+-- they are lent, and come back as those of the places
+pub figures-lent : (d : Device) (ps : List Place) (l ys : List ℕ) → allOf hasAllSlots ps ≡ true → length ps ≡ 8 → length (d .places) ≡ 8 → l ≡ unsettled ps d
+    → (part totalAt figuresSize l ≡ figureWords (d .places) → ys ≡ figureWords ps) → withPart totalAt figuresSize l ys ≡ encode (withPlaces ps d)
+unfolding encode unsettled
+figures-lent d ps l ys sized eight as-many e f =
+    lent totalAt (totalAt + figuresSize) figuresSize l (figureWords (d .places)) (figureWords ps) (encode (withPlaces ps d)) ys (add-sub-cancel-left totalAt figuresSize)
+    (ap (part totalAt figuresSize) e ∙ figures-in ps (d .places) (d .spent) sized eight as-many)
+    (ap (λ (w : List ℕ). withPart totalAt figuresSize w (figureWords ps)) e ∙ figures-put ps (d .places) (d .spent) sized eight as-many) f
 
 -- Decoding undoes encoding
 

@@ -1,10 +1,10 @@
 -- The statements of specs/Promises, proved: the layout is lawful, valid is exactly the tables of well-formed devices, and condition 3 and the
 -- model's other promises hold over its tables.
-use mathlib.Core.Path.{_≡_, refl, sym, ap, ap₂, _∙_}
-use mathlib.Core.Bool.{true, _&&_}
+use mathlib.Core.Path.{_≡_, refl, sym, ap, ap₂, _∙_, subst}
+use mathlib.Core.Bool.{Bool, true, _&&_}
 use mathlib.Core.Option.{Option, none, some}
-use mathlib.Core.List.{List, [], _++_}
-use Prim.Native.Nat.{ℕ, zero, suc, _+_, _*_, _/_, _%_, _^_, _<_}
+use mathlib.Core.List.{List, [], _++_, map}
+use Prim.Native.Nat.{ℕ, zero, suc, _+_, _-_, _*_, _/_, _%_, _^_, _<_, _≤_}
 use native.Mathlib.Nat.{mul-zero, mul-suc}
 use native.Mathlib.Omega.{arith}
 use lib.ListN.{length, replicate, take, drop, getD}
@@ -15,17 +15,21 @@ use Rattle.laws.specs.Lists.{allOf, same}
 use Rattle.laws.specs.Tests.{within}
 use Rattle.laws.specs.Parts.{zeros, pieces, readPieces}
 use Rattle.laws.proofs.Tests.{both, and-left, and-right, within-bounds}
-use Rattle.laws.proofs.Lists.{all-append, all-implied}
+use Rattle.laws.proofs.Lists.{all-append, all-implied, all-map}
 use Rattle.laws.proofs.Parts.{zeros-append}
 use Rattle.laws.proofs.Pieces.{all-pieces}
 use Rattle.laws.proofs.Same.{same-refl}
 use Rattle.model.specs.Numbers.{tableWords, streamPlaces, streamNumbers, firstCoded, lastCoded}
-use Rattle.model.specs.Device.{created, queued, dequeued, Slot, free, resource, Queue, Stream, Place, vacant, occupied, Device, fresh}
+use Rattle.model.specs.Device.{created, queued, dequeued, Slot, free, resource, Queue, Stream, Place, vacant, occupied, Device, fresh, recordOf, pendingOf, pendingAt, pendingInAll}
+use Rattle.model.specs.Steps.{Step, Event, final}
+use Rattle.model.specs.Ledger.{ledgerOf}
 use Rattle.model.specs.Commands.{goodExtent}
-use Rattle.model.specs.WellFormed.{u32, u64, goodSlot, goodSlots, goodQueue, goodDrain, goodPlace, wellFormed}
+use Rattle.model.specs.WellFormed.{u32, u64, goodSlot, goodSlots, goodQueue, goodDrain, goodPlace, spentIn, wellFormed}
 use Rattle.model.specs.Tables.{valid}
+use Rattle.model.proofs.Spent.{spent-below}
 use Rattle.model.proofs.WellFormed.{well-fresh, well-places, well-spent}
-use Rattle.model.proofs.Tables.{valid-device, valid-used, on-tables, fresh-short, fresh-long}
+use Rattle.model.proofs.Tables.{final-well, valid-device, valid-used, valid-whole, same-events, same-table, on-tables, fresh-short, fresh-long}
+use Rattle.model.proofs.Figures.{total-of-ledger}
 use Rattle.model.proofs.Refusals.{only-listed, no-table-refusal}
 use Rattle.model.proofs.SpentForGood.{spent-for-good}
 use Rattle.model.proofs.SpentExactly.{spent-exactly}
@@ -33,13 +37,16 @@ use Rattle.model.proofs.LastPicture.{drains-end, no-drain-after-eos}
 use Rattle.model.proofs.Unchanged.{refusal-changes-nothing, error-changes-nothing, keeps-rest, stays-valid, writes-at-most}
 use Rattle.queue.specs.Words.{slotWords, queueWords}
 use Rattle.table.specs.Spent.{wordNumbers, spentSize, bitsWord, spentWords}
-use Rattle.table.specs.Blocks.{drainWords, headWords, placeWords, blocks, blocksSize, unusedSize, behind, encode, decode, layout}
-use Rattle.table.specs.Search.{hasAllSlots}
-use Rattle.table.specs.Promises.{MeetsLaws, ValidExactly, Narrow, SpentBits, FreshIsZero, ConditionThree, TablePromises}
+use Rattle.table.specs.Figures.{placeMark, figureWords, markedPlace, wordsRead, askedInAll, askedOfStream}
+use Rattle.table.specs.Blocks.{drainWords, headWords, placeWords, blocks, blocksSize, gapSize, unusedSize, behind, encode, decode, layout}
+use Rattle.table.specs.Search.{findStream, hasAllSlots}
+use Rattle.table.specs.Promises.{MeetsLaws, ValidExactly, Narrow, SpentBits, FreshIsZero, readsFor, FewWords, NoOtherWord, Counts, CountsRight, TotalOfLedger, ConditionThree, TablePromises}
 use Rattle.table.proofs.Bits.{spent-narrow, numberBit, bit-spent}
+use Rattle.table.specs.declared.figures.PendingFigure.{PendingFigure}
 use Rattle.table.proofs.Records.{used-length, spent-part, decode-device}
+use Rattle.table.proofs.Counted.{pending-most, all-most, asked-found, reads-found, marked-below, total-long, total-there, long-enough, asked-stream, same-answer, same-total}
 
--- The two laws
+-- The laws
 
 good-slots : (q : Queue) → goodQueue q ≡ true → length (q .slots) ≡ 16
 good-slots q h = eqb-true (length (q .slots)) 16 (and-left (eqb (length (q .slots)) 16) _ (and-left (goodSlots (q .slots)) _ h))
@@ -75,7 +82,11 @@ module _ (d : Device) (h : wellFormed d ≡ true) where
   well-numbers = (well-spent d h) .size
 
 pub meets-laws : MeetsLaws
-meets-laws = record { size = λ d h. used-length d (well-sized d h) (well-eight d h); back = λ d h. decode-device d (well-sized d h) (well-eight d h) (well-numbers d h) }
+meets-laws = record {
+  size = λ d h. used-length d (well-sized d h) (well-eight d h);
+  back = λ d h. decode-device d (well-sized d h) (well-eight d h) (well-numbers d h);
+  counts = λ d h rest n. ap (λ (f : PendingFigure). f .pending) (asked-stream d rest (well-sized d h) (well-eight d h) n);
+}
 
 -- No rule is missing and none is added
 
@@ -157,12 +168,32 @@ narrow-place (occupied n b) h =
     (all-append u32 ins (outs ++ zeros 336)
     ∙ both (narrow-queue (b .inputs) (good-inputs n b h)) (all-append u32 outs (zeros 336) ∙ both (narrow-queue (b .outputs) (good-outputs n b h)) (narrow-zeros 336)))
 
+-- the number of a live place is below 1,024, and so its mark is a word
+narrow-mark : (s : List Bool) → length s ≡ streamNumbers → (p : Place) → spentIn s p ≡ true → u32 (placeMark p) ≡ true
+narrow-mark s long vacant h = u32-of 0 (omega arith)
+narrow-mark s long (occupied n b) h = u32-of (suc n) (omega (arith, spent-below n s h))
+
+narrow-pending : (p : Place) → hasAllSlots p ≡ true → u32 (pendingAt p) ≡ true
+narrow-pending p h = u32-of (pendingAt p) (omega (arith, pending-most p h))
+
+narrow-figures : (d : Device) → wellFormed d ≡ true → allOf u32 (figureWords (d .places)) ≡ true
+unfolding figureWords
+narrow-figures d h =
+    let ps = d .places in
+    both (u32-of (pendingInAll ps) (omega (arith, all-most ps (well-sized d h), well-eight d h)))
+    (all-append u32 (map placeMark ps) (map pendingAt ps)
+    ∙ both (all-map (spentIn (d .spent)) u32 placeMark (narrow-mark (d .spent) (well-numbers d h)) ps (well-spent d h .each)) (all-map hasAllSlots u32 pendingAt narrow-pending ps (well-sized d h)))
+
 pub narrow : Narrow
 unfolding encode blocks behind
 narrow d h =
-    all-append u32 (blocks (d .places)) (behind d)
+    let figures = figureWords (d .places) in
+    all-append u32 (blocks (d .places)) (behind (d .spent) (d .places))
     ∙ both (all-pieces u32 placeWords goodPlace narrow-place (d .places) ((well-places d h) .each))
-    (all-append u32 (spentWords (d .spent)) (zeros unusedSize) ∙ both (spent-narrow (d .spent) (well-numbers d h)) (narrow-zeros unusedSize))
+    (all-append u32 (spentWords (d .spent)) (zeros gapSize ++ (figures ++ zeros unusedSize))
+    ∙ both (spent-narrow (d .spent) (well-numbers d h))
+    (all-append u32 (zeros gapSize) (figures ++ zeros unusedSize)
+    ∙ both (narrow-zeros gapSize) (all-append u32 figures (zeros unusedSize) ∙ both (narrow-figures d h) (narrow-zeros unusedSize))))
 
 -- A number's bit
 
@@ -189,16 +220,61 @@ vacant-zero (suc n) =
     ∙ zeros-append 512 (512 * n)
     ∙ ap zeros (let next : 512 + 512 * n ≡ 512 * suc n = omega (arith, mul-suc 512 n) in next)
 
-behind-zero : behind fresh ≡ zeros (spentSize + unusedSize)
-unfolding behind fresh spentWords readPieces bitsWord zeros
+behind-zero : behind (fresh .spent) (fresh .places) ≡ zeros (tableWords - blocksSize)
+unfolding behind fresh spentWords readPieces bitsWord figureWords zeros
 behind-zero = refl
 
 pub fresh-is-zero : FreshIsZero
 unfolding encode fresh
-fresh-is-zero = ap₂ _++_ (vacant-zero streamPlaces) behind-zero ∙ zeros-append blocksSize (spentSize + unusedSize)
+fresh-is-zero = ap₂ _++_ (vacant-zero streamPlaces) behind-zero ∙ zeros-append blocksSize (tableWords - blocksSize)
 
 pub zero-is-fresh : decode (zeros tableWords) ≡ fresh
 zero-is-fresh = ap decode (sym fresh-is-zero) ∙ meets-laws .back fresh well-fresh
+
+-- Questions
+
+reads-for : (o : Option ℕ) → length (wordsRead o) ≡ readsFor o
+reads-for none = refl
+reads-for (some k) = reads-found k
+
+pub few-words : FewWords
+few-words t long = record {
+  forTotal = ap (λ (f : PendingFigure). f .reads) (total-long t long);
+  forStream = reads;
+  atMost = λ n. most n (markedPlace t n) refl;
+}
+  where
+    reads : (n : ℕ) → askedOfStream t n .reads ≡ readsFor (markedPlace t n)
+    reads n = ap (λ (f : PendingFigure). f .reads) (asked-found t n (markedPlace t n) refl long) ∙ reads-for (markedPlace t n)
+
+    most : (n : ℕ) (o : Option ℕ) → markedPlace t n ≡ o → askedOfStream t n .reads ≤ 9
+    most n none e = omega (arith, reads n, ap readsFor e)
+    most n (some k) e = omega (arith, reads n, ap readsFor e, marked-below t n k long e)
+
+pub no-other-word : NoOtherWord
+no-other-word t u long long′ = record { totalOnly = λ agree. same-total t u long long′ (agree .0); streamOnly = same-answer t u long long′ }
+
+counts : (d : Device) (rest : List ℕ) → wellFormed d ≡ true → Counts (encode d ++ rest) d
+counts d rest h = record {
+  inAll = total-long (encode d ++ rest) long ∙ (λ i. record { refusal = 0; pending = total-there d rest (well-sized d h) (well-eight d h) i; reads = 1 });
+  ofStream = λ n.
+      asked-stream d rest (well-sized d h) (well-eight d h) n
+      ∙ (λ i. record { refusal = 0; pending = pendingOf (recordOf n (d .places)); reads = reads-for (findStream n (d .places)) i });
+}
+  where
+    long : tableWords ≤ length (encode d ++ rest)
+    long = long-enough d rest (well-sized d h) (well-eight d h)
+
+pub counts-right : CountsRight
+counts-right t v = subst (λ (x : List ℕ). Counts x (decode (take tableWords t))) (valid-whole layout t v) (counts (decode (take tableWords t)) (drop tableWords t) (valid-device layout t v))
+
+pub total-ledger : TotalOfLedger
+total-ledger t ss h m =
+    let rest = drop tableWords t in
+    ap (λ (x : List ℕ). askedInAll x .pending) (same-table layout meets-laws t h ss m)
+    ∙ ap (λ (f : PendingFigure). f .pending) (counts (final fresh ss) rest (final-well fresh ss well-fresh m) .inAll)
+    ∙ total-of-ledger ss m
+    ∙ ap (λ (es : List Event). length (ledgerOf es)) (sym (same-events layout meets-laws t h ss m))
 
 -- Over tables
 
@@ -221,4 +297,8 @@ table-promises =
       spentForGood = spent-for-good layout meets-laws;
       drainsEnd = drains-end layout meets-laws;
       noDrainAfterEos = no-drain-after-eos layout meets-laws;
+      fewWords = few-words;
+      noOtherWord = no-other-word;
+      countsRight = counts-right;
+      totalOfLedger = total-ledger;
     }

@@ -1,6 +1,6 @@
 -- The words of a stream place and of the whole device table, the records that words stand for, and with both the table's layout.
 use Prim.Native.Nat.{ℕ}
-use mathlib.Core.Bool.{cond}
+use mathlib.Core.Bool.{Bool, cond}
 use mathlib.Core.Option.{Option, none, some}
 use mathlib.Core.List.{List, [], _∷_, _++_}
 use lib.ListN.{take, getD}
@@ -11,6 +11,7 @@ use Rattle.model.specs.Device.{QueueType, input, output, Place, vacant, occupie
 use Rattle.model.specs.Tables.{Layout}
 use Rattle.queue.specs.Words.{queueSize, queueWords, decodeQueue}
 use Rattle.table.specs.Spent.{spentSize, spentWords, decodeSpent}
+use Rattle.table.specs.Figures.{figureWords, askedOfStream}
 
 -- a place is a block of 512 words: live (0 or 1), number, coded format, drain pending (0 or 1), drain ticket, three words without use, the
 -- input queue from 8, the output queue from 92, and from 176 words without use; words without use are zero, and so is a vacant place
@@ -48,17 +49,31 @@ blocks ps = pieces placeWords ps
 abbrev pub blocksSize : ℕ
 blocksSize = 4096
 
--- the words without use behind those of the spent numbers
-abbrev pub unusedSize : ℕ
-unusedSize = 32
+-- the words without use between the spent numbers and the figures, and behind the figures
+abbrev pub gapSize : ℕ
+gapSize = 1
 
--- the words behind the blocks: those of the spent numbers, and words without use
-unfoldable pub behind : Device → List ℕ
-behind d = spentWords (d .spent) ++ zeros unusedSize
+abbrev pub unusedSize : ℕ
+unusedSize = 14
+
+-- the words behind the blocks: those of the spent numbers, and the figures of the places, with words without use before and behind them
+unfoldable pub behind : List Bool → List Place → List ℕ
+behind s ps = spentWords s ++ (zeros gapSize ++ (figureWords ps ++ zeros unusedSize))
 
 -- the used words of a table: the blocks of the places, and the words behind them
 unfoldable pub encode : Device → List ℕ
-encode d = blocks (d .places) ++ behind d
+encode d = blocks (d .places) ++ behind (d .spent) (d .places)
+
+-- the device with other places, and with other spent numbers
+abbrev pub withPlaces : List Place → Device → Device
+withPlaces ps d = record { places = ps; spent = d .spent }
+
+abbrev pub withSpent : List Bool → Device → Device
+withSpent s d = record { places = d .places; spent = s }
+
+-- the words of the device with other places before the figures are settled: what stands behind the blocks is still its own
+unfoldable pub unsettled : List Place → Device → List ℕ
+unsettled ps d = blocks ps ++ behind (d .spent) (d .places)
 
 -- The records that words stand for
 
@@ -89,4 +104,4 @@ decode w = record { places = placesIn (take blocksSize w); spent = decodeSpent (
 
 -- the one layout of this device
 abbrev pub layout : Layout
-layout = record { encode = encode; decode = decode }
+layout = record { encode = encode; decode = decode; figure = λ t n. askedOfStream t n .pending }

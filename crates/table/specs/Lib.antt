@@ -1,4 +1,5 @@
 pub mod Spent
+pub mod Figures
 pub mod Blocks
 pub mod Search
 pub mod Values

@@ -1,21 +1,26 @@
 -- What is promised of the table's layout and over its tables. Each statement is proved in proofs/Theorems.
-use Prim.Native.Nat.{ℕ, _+_, _/_, _%_, _^_, _<_}
+use Prim.Native.Nat.{ℕ, _+_, _/_, _%_, _^_, _<_, _≤_}
 use mathlib.Core.Path.{_≡_}
 use mathlib.Core.Bool.{true}
 use mathlib.Core.Logic.{_↔_}
-use mathlib.Core.List.{List}
-use lib.ListN.{take, getD}
+use mathlib.Core.Option.{Option, none, some}
+use mathlib.Core.List.{List, [], _∷_}
+use lib.ListN.{length, take, getD}
 use lib.Dec.{eqb}
-use Rattle.laws.specs.Lists.{allOf}
+use Rattle.laws.specs.Lists.{allOf, Each}
 use Rattle.laws.specs.Parts.{zeros}
 use Rattle.model.specs.Numbers.{tableWords, streamNumbers}
-use Rattle.model.specs.Device.{Device, fresh, isSpent}
-use Rattle.model.specs.WellFormed.{u32, wellFormed}
-use Rattle.model.specs.Tables.{Lawful, valid}
+use Rattle.model.specs.Device.{Device, fresh, recordOf, pendingOf, pendingInAll, isSpent}
+use Rattle.model.specs.Steps.{Step}
+use Rattle.model.specs.Ledger.{ledgerOf}
+use Rattle.model.specs.WellFormed.{u32, wellFormed, goodSteps}
+use Rattle.model.specs.Tables.{Lawful, valid, freshen, tableEvents, tableFinal}
 use Rattle.model.specs.Promises.{FreshShort, FreshLong, RefusalChangesNothing, ErrorChangesNothing, KeepsRest, StaysValid, OnlyListed, NoTableRefusal, WritesAtMost, SpentForGood, SpentExactly, DrainsEnd, NoDrainAfterEos}
 use Rattle.model.specs.Condition3.{OnTables}
 use Rattle.table.specs.Spent.{wordNumbers}
-use Rattle.table.specs.Blocks.{blocksSize, encode, layout}
+use Rattle.table.specs.Figures.{totalAt, markedPlace, wordsRead, askedInAll, askedOfStream}
+use Rattle.table.specs.Blocks.{blocksSize, encode, decode, layout}
+use Rattle.table.specs.Search.{findStream}
 
 -- it meets the two laws
 abbrev pub MeetsLaws : Type 0
@@ -42,6 +47,49 @@ SpentBits =
 -- the table of no streams and no spent number is all zero
 abbrev pub FreshIsZero : Type 0
 FreshIsZero = encode fresh ≡ zeros tableWords
+
+-- Questions for pending answers. The numbers are those of 02, written out.
+
+-- how many words a question for a stream reads: the mark of each place up to its own, k counted from 0, and its figure; or eight marks
+abbrev pub readsFor : Option ℕ → ℕ
+readsFor none = 8
+readsFor (some k) = k + 2
+
+-- on any table that is long enough: the place is that of the first mark that is the number's, and no more than nine words are read
+pub record ReadsFew (t : List ℕ) : Type 0 where
+  pub forTotal : askedInAll t .reads ≡ 1
+  pub forStream : (n : ℕ) → askedOfStream t n .reads ≡ readsFor (markedPlace t n)
+  pub atMost : (n : ℕ) → askedOfStream t n .reads ≤ 9
+
+abbrev pub FewWords : Type 0
+FewWords = (t : List ℕ) → tableWords ≤ length t → ReadsFew t
+
+-- two tables that agree on the words that a question reads give it one answer: no other word matters
+abbrev pub AgreeOn : List ℕ → List ℕ → List ℕ → Type 0
+AgreeOn t u words = Each (λ i. getD t i 0 ≡ getD u i 0) words
+
+pub record OnlyRead (t u : List ℕ) : Type 0 where
+  pub totalOnly : AgreeOn t u (totalAt ∷ []) → askedInAll t ≡ askedInAll u
+  pub streamOnly : (n : ℕ) → AgreeOn t u (wordsRead (markedPlace t n)) → askedOfStream t n ≡ askedOfStream u n
+
+abbrev pub NoOtherWord : Type 0
+NoOtherWord = (t u : List ℕ) → tableWords ≤ length t → tableWords ≤ length u → OnlyRead t u
+
+-- on a table that stands for the device d: a question gives what going through every resource and drain gives
+pub record Counts (t : List ℕ) (d : Device) : Type 0 where
+  pub inAll : askedInAll t ≡ record { refusal = 0; pending = pendingInAll (d .places); reads = 1 }
+  pub ofStream : (n : ℕ) → askedOfStream t n ≡ record { refusal = 0; pending = pendingOf (recordOf n (d .places)); reads = readsFor (findStream n (d .places)) }
+
+-- so of every valid table
+abbrev pub CountsRight : Type 0
+CountsRight = (t : List ℕ) → valid layout t ≡ true → Counts t (decode (take tableWords t))
+
+-- and after a list of steps from a fresh table the total is how many answers are pending by the ledger. That a stream's figure is too is in condition 3.
+abbrev pub TotalOfLedger : Type 0
+TotalOfLedger =
+    (t : List ℕ) (ss : List Step) → tableWords ≤ length t → goodSteps ss ≡ true
+    → let start = freshen layout t .table in
+    askedInAll (tableFinal layout start ss) .pending ≡ length (ledgerOf (tableEvents layout start ss))
 
 -- condition 3 over the tables of this device
 abbrev pub ConditionThree : Type 0
@@ -74,3 +122,9 @@ pub record TablePromises : Type 0 where
   pub drainsEnd : DrainsEnd layout
   -- so that after every accepted finish with EOS its stream has no drain pending
   pub noDrainAfterEos : NoDrainAfterEos layout
+  -- a question reads at most nine words, and looks at no other
+  pub fewWords : FewWords
+  pub noOtherWord : NoOtherWord
+  -- of a valid table it gives what the records hold, and after a list of steps what the ledger has
+  pub countsRight : CountsRight
+  pub totalOfLedger : TotalOfLedger

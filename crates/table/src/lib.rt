@@ -1,5 +1,5 @@
-// The device table (specs/Blocks): eight blocks of 512 words, one for each stream place, and behind them the words of the spent numbers and words
-// without use.
+// The device table (specs/Blocks): eight blocks of 512 words, one for each stream place, and behind them the words of the spent numbers, the figures of
+// pending answers and words without use.
 ghost use mathlib.Core.Path.{_≡_};
 ghost use Rattle.model.specs.Tables.{freshen};
 ghost use Rattle.table.specs.Blocks.{layout};
@@ -7,6 +7,7 @@ ghost use Rattle.table.specs.Values.{freshened};
 use protocol::SHORT_TABLE;
 
 mod block;
+mod figures;
 mod search;
 mod spent;
 
@@ -27,6 +28,20 @@ pub use block::new_stream;
 pub use block::pending_drain;
 pub use block::queue_start;
 pub use block::set_drain;
+pub use figures::FIGURES_END;
+pub use figures::FIGURES_WORDS;
+pub use figures::FIRST_FIGURE;
+pub use figures::FIRST_MARK;
+pub use figures::PendingFigure;
+pub use figures::TOTAL;
+pub use figures::TOTAL_AT;
+pub use figures::add_up;
+pub use figures::is_mark;
+pub use figures::mark_of;
+pub use figures::pending_in;
+pub use figures::pending_in_all;
+pub use figures::pending_of_stream;
+pub use figures::put_figure;
 pub use search::find_stream;
 pub use search::find_vacant;
 pub use spent::is_spent;
@@ -42,7 +57,7 @@ pub const BLOCKS_WORDS: usize = 4096;
 // The words of the spent numbers stand behind the blocks, up to this one.
 pub const SPENT_END: usize = 4128;
 
-// The used words of a table: the blocks, the spent numbers, and words without use.
+// The used words of a table: the blocks, the spent numbers, the figures, and words without use.
 pub const TABLE_WORDS: usize = 4160;
 
 // A drain that is pending, with its ticket, or none.

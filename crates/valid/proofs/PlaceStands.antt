@@ -2,7 +2,7 @@
 use mathlib.Core.Path.{_≡_, refl, sym, ap, ap₂, _∙_, subst}
 use mathlib.Core.Bool.{Bool, true, false, _&&_, and-true, and-false, and-assoc}
 use mathlib.Core.List.{List, [], _∷_, _++_}
-use Prim.Native.Nat.{ℕ, _+_, _*_, _^_, _<_}
+use Prim.Native.Nat.{ℕ, _+_, _*_, _^_, _<_, _≤_}
 use native.Mathlib.Omega.{arith}
 use lib.ListN.{length, getD, take, drop, length-drop, List·getD-eq-default}
 use lib.Seq.{drop-drop, take-all, length-take-le, getD-take, getD-drop}
@@ -11,7 +11,8 @@ use borrow.Author.Tests.{eq-eqb, ne-eqb, ltb-true, ltb-false}
 use Rattle.laws.specs.Lists.{allOf, same, distinct}
 use Rattle.laws.specs.Tests.{allBelow}
 use Rattle.laws.specs.Parts.{part, zeros}
-use Rattle.laws.proofs.Tests.{all-ext, below-both}
+use Rattle.laws.proofs.Tests.{all-ext, below-both, and-right}
+use Rattle.laws.proofs.Parts.{zero-length}
 use Rattle.laws.proofs.Lists.{decide, cond-elim, eqb-same}
 use Rattle.laws.proofs.Same.{same-eq, same-true, same-cut}
 use Rattle.laws.proofs.Pieces.{same-pieces, read-length, read-at, all-places, all-read, pieces-again}
@@ -22,11 +23,12 @@ use Rattle.model.specs.Tables.{valid}
 use Rattle.queue.specs.Words.{queueWords, decodeQueue}
 use Rattle.queue.proofs.Records.{queue-length, decoded-slots}
 use Rattle.table.specs.Spent.{spentSize, spentWords, decodeSpent}
-use Rattle.table.specs.Blocks.{placeSize, headWords, placeWords, blocks, blocksSize, unusedSize, behind, encode, drainIn, decodePlace, placesIn, decode, layout}
+use Rattle.table.specs.Figures.{totalAt, figuresSize, figureWords}
+use Rattle.table.specs.Blocks.{placeSize, headWords, placeWords, blocks, blocksSize, gapSize, unusedSize, behind, encode, drainIn, decodePlace, placesIn, decode, layout}
 use Rattle.table.specs.Search.{placeAt, hasAllSlots}
 use Rattle.valid.specs.Rules.{headStands, placeStands, placeSpent, placeValid, numbersFrom, blocksValid}
 use Rattle.table.proofs.Bits.{spent-length, all-words, spent-decoded, spent-again}
-use Rattle.table.proofs.Records.{head-length, queue-sized, place-length, blocks-length}
+use Rattle.table.proofs.Records.{head-length, queue-sized, place-length, blocks-length, figure-length}
 use Rattle.valid.proofs.Elements.{places-numbers}
 
 -- What is decoded has its sizes
@@ -47,7 +49,7 @@ pub decoded-sized : (w : List ℕ) → hasAllSlots (decodePlace w) ≡ true
 unfolding decodePlace
 decoded-sized w = cond-elim (λ (p : Place). hasAllSlots p ≡ true) (eqb (getD w 0 0) 1) (λ _. queue-sized (getD w 1 0) (streamRead w) (sixteen w)) (λ _. refl)
 
-decode-sized : (w : List ℕ) → allOf hasAllSlots (placesIn w) ≡ true
+pub decode-sized : (w : List ℕ) → allOf hasAllSlots (placesIn w) ≡ true
 unfolding placesIn
 decode-sized w = all-read decodePlace hasAllSlots 512 decoded-sized 8 w
 
@@ -169,27 +171,33 @@ blocks-test t w long =
     ∙ ap (λ (b : Bool). (allBelow streamPlaces stands && b) && distinct (numbersFrom 0 placeSize streamPlaces t)) (rules-test t w)
     ∙ ap (λ (b : Bool). b && distinct (numbersFrom 0 placeSize streamPlaces t)) (sym (below-both stands good streamPlaces)))
 
--- The used words: the blocks, the spent numbers, and words without use
+-- The used words: the blocks, the spent numbers, the figures, and words without use
 
 blocks-length-of : (t : List ℕ) → length (blocks (placesIn t)) ≡ blocksSize
 blocks-length-of t = omega (arith, blocks-length (placesIn t) (decode-sized t), decode-eight t)
 
--- of the words behind the blocks those of the numbers may be any, and the others are zero
+-- blocks that are valid are those of the places that they stand for
+pub blocks-stand : (t w : List ℕ) → length t ≡ blocksSize → blocksValid w t ≡ true → t ≡ blocks (placesIn t)
+blocks-stand t w long v = same-true _ _ (and-right (goodPlaces (placesIn t) && allOf (spentIn (decodeSpent w)) (placesIn t)) _ (blocks-test t w long ∙ v))
+
+-- of the words behind the blocks those of the numbers may be any, the figures are those of the places, and the others are zero
 module _ (t : List ℕ) (long : length t ≡ tableWords) where
   abbrev numbers : List ℕ
   numbers = part blocksSize spentSize t
 
-  abbrev unused : List ℕ
-  unused = part (blocksSize + spentSize) unusedSize t
-
   numbers-size : length numbers ≡ spentSize
   numbers-size = length-take-le spentSize (drop blocksSize t) (omega (arith, length-drop blocksSize t))
 
-  unused-size : length (drop (blocksSize + spentSize) t) ≡ unusedSize
-  unused-size = omega (arith, length-drop (blocksSize + spentSize) t)
+  -- n words without use from a on
+  pub unused-test : (a n : ℕ) → a + n ≤ tableWords → same (part a n t) (zeros (length (part a n t))) ≡ same (part a n t) (zeros n)
+  unused-test a n h = ap (λ (m : ℕ). same (part a n t) (zeros m)) (length-take-le n (drop a t) (omega (arith, length-drop a t)))
 
-  pub unused-test : same unused (zeros (length unused)) ≡ same unused (zeros unusedSize)
-  unused-test = ap (λ (n : ℕ). same unused (zeros n)) (length-take-le unusedSize (drop (blocksSize + spentSize) t) (omega (arith, unused-size)))
+  -- the words from a on are those of x and y exactly where the first are those of x
+  cut-at : (a n : ℕ) (x y : List ℕ) → a + n ≤ tableWords → length x ≡ n → same (drop a t) (x ++ y) ≡ (same (part a n t) x && same (drop (a + n) t) y)
+  cut-at a n x y h e = same-cut (drop a t) x y n (omega (arith, length-drop a t)) e ∙ ap (λ (w : List ℕ). same (part a n t) x && same w y) (drop-drop n a t)
+
+  abbrev restValid : List Place → Bool
+  restValid ps = same (part (blocksSize + spentSize) gapSize t) (zeros gapSize) && (same (part totalAt figuresSize t) (figureWords ps) && same (part (totalAt + figuresSize) unusedSize t) (zeros unusedSize))
 
   module _ (narrow : (i : ℕ) → getD t i 0 < 2 ^ 32) where
     numbers-narrow : (i : ℕ) → getD numbers i 0 < 2 ^ 32
@@ -198,25 +206,31 @@ module _ (t : List ℕ) (long : length t ≡ tableWords) where
         (λ h. subst (λ (v : ℕ). v < 2 ^ 32) (sym (getD-take spentSize (drop blocksSize t) i 0 (ltb-true i spentSize h) ∙ getD-drop blocksSize t i 0)) (narrow (blocksSize + i)))
         (λ h. subst (λ (v : ℕ). v < 2 ^ 32) (sym (List·getD-eq-default numbers 0 {n = i} (omega (arith, ltb-false i spentSize h, numbers-size)))) (omega arith))
 
-    behind-test : same (drop blocksSize t) (spentWords (decodeSpent numbers) ++ zeros unusedSize) ≡ same unused (zeros unusedSize)
-    behind-test =
-        same-cut (drop blocksSize t) (spentWords (decodeSpent numbers)) (zeros unusedSize) spentSize (omega (arith, length-drop blocksSize t)) (spent-length (decodeSpent numbers))
-        ∙ ap₂ (λ (x : Bool) (w : List ℕ). x && same w (zeros unusedSize))
-        (same-eq numbers (spentWords (decodeSpent numbers)) (sym (spent-again numbers numbers-size (all-words numbers numbers-narrow))))
-        (drop-drop spentSize blocksSize t ∙ sym (take-all unusedSize (drop (blocksSize + spentSize) t) (omega (arith, unused-size))))
+    behind-test : (ps : List Place) → length ps ≡ streamPlaces → same (drop blocksSize t) (behind (decodeSpent numbers) ps) ≡ restValid ps
+    unfolding behind
+    behind-test ps eight =
+        let spent = spentWords (decodeSpent numbers) in
+        cut-at blocksSize spentSize spent (zeros gapSize ++ (figureWords ps ++ zeros unusedSize)) (omega arith) (spent-length (decodeSpent numbers))
+        ∙ ap₂ (λ (x y : Bool). x && y)
+        (same-eq numbers spent (sym (spent-again numbers numbers-size (all-words numbers numbers-narrow))))
+        (cut-at (blocksSize + spentSize) gapSize (zeros gapSize) (figureWords ps ++ zeros unusedSize) (omega arith) (zero-length gapSize)
+        ∙ ap (λ (x : Bool). same (part (blocksSize + spentSize) gapSize t) (zeros gapSize) && x)
+        (cut-at totalAt figuresSize (figureWords ps) (zeros unusedSize) (omega arith) (figure-length ps eight)
+        ∙ ap (λ (w : List ℕ). same (part totalAt figuresSize t) (figureWords ps) && same w (zeros unusedSize))
+        (sym (take-all unusedSize (drop (totalAt + figuresSize) t) (omega (arith, length-drop (totalAt + figuresSize) t))))))
 
-    pub valid-test : valid layout t ≡ blocksValid numbers (take blocksSize t) && same unused (zeros unusedSize)
-    unfolding valid wellFormed encode decode behind
+    pub valid-test : valid layout t ≡ (blocksValid numbers (take blocksSize t) && restValid (placesIn (take blocksSize t)))
+    unfolding valid wellFormed encode decode
     valid-test =
         let b = take blocksSize t in
         let ps = placesIn b in
         let s = decodeSpent numbers in
         let spent : Bool = allOf (spentIn s) ps in
-        let whole = blocks ps ++ (spentWords s ++ zeros unusedSize) in
-        let cut : same t whole ≡ same b (blocks ps) && same unused (zeros unusedSize) =
-        same-cut t (blocks ps) (spentWords s ++ zeros unusedSize) blocksSize (omega arith) (blocks-length-of b)
-        ∙ ap (λ (x : Bool). same b (blocks ps) && x) behind-test in
+        let whole = blocks ps ++ behind s ps in
+        let cut : same t whole ≡ (same b (blocks ps) && restValid ps) =
+        same-cut t (blocks ps) (behind s ps) blocksSize (omega arith) (blocks-length-of b)
+        ∙ ap (λ (x : Bool). same b (blocks ps) && x) (behind-test ps (decode-eight b)) in
         ap (λ (w : List ℕ). wellFormed (decode w) && same w (encode (decode w))) (take-all tableWords t (omega arith))
         ∙ ap₂ (λ (x y : Bool). (goodPlaces ps && (x && spent)) && y) (eq-eqb (length s) streamNumbers (spent-decoded numbers numbers-size)) cut
-        ∙ sym (and-assoc (goodPlaces ps && spent) (same b (blocks ps)) (same unused (zeros unusedSize)))
-        ∙ ap (λ (x : Bool). x && same unused (zeros unusedSize)) (blocks-test b numbers (length-take-le blocksSize t (omega arith)))
+        ∙ sym (and-assoc (goodPlaces ps && spent) (same b (blocks ps)) (restValid ps))
+        ∙ ap (λ (x : Bool). x && restValid ps) (blocks-test b numbers (length-take-le blocksSize t (omega arith)))

@@ -1,5 +1,5 @@
 -- Rules of a valid table in the form in which the test looks at them.
-use Prim.Native.Nat.{ℕ, _*_, _%_}
+use Prim.Native.Nat.{ℕ, _+_, _*_, _%_}
 use mathlib.Core.Path.{_≡_}
 use mathlib.Core.Bool.{Bool, true, false, cond, _&&_}
 use mathlib.Core.Option.{Option, none, some}
@@ -10,9 +10,12 @@ use Rattle.laws.specs.Lists.{same, numbersIn, standsIn, distinct}
 use Rattle.laws.specs.Tests.{allBelow}
 use Rattle.laws.specs.Parts.{part, readPieces}
 use Rattle.model.specs.Numbers.{streamPlaces}
+use Rattle.model.specs.Device.{Place, pendingAt}
 use Rattle.model.specs.WellFormed.{goodPlace, spentIn}
 use Rattle.table.specs.Spent.{decodeSpent}
+use Rattle.table.specs.Figures.{placeMark}
 use Rattle.table.specs.Blocks.{placeSize, headWords, drainIn, placeWords, decodePlace}
+use Rattle.table.specs.Search.{placeAt}
 
 -- eight words are the head of the live stream that they stand for
 abbrev pub headStands : List ℕ → Bool
@@ -41,6 +44,10 @@ numbersFrom i step count w = numbersIn wordsNumber (drop i (readPieces (λ x. x)
 -- the words of eight blocks are those of places that keep the rules, and no stream number stands twice
 unfoldable pub blocksValid : List ℕ → List ℕ → Bool
 blocksValid spent w = allBelow streamPlaces (λ k. placeValid spent (part (placeSize * k) placeSize w)) && distinct (numbersFrom 0 placeSize streamPlaces w)
+
+-- of the figures those of place k, its mark and its figure, are what its record gives
+abbrev pub countedAt : List ℕ → List Place → ℕ → Bool
+countedAt w ps k = eqb (getD w (1 + k) 0) (placeMark (placeAt k ps)) && eqb (getD w (9 + k) 0) (pendingAt (placeAt k ps))
 
 -- Sixty-four marks. Each number leaves one, so that a number whose mark is missing is new.
 

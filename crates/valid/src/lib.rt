@@ -1,4 +1,5 @@
 // Whether the words of a table are valid: those of a device, and of one that keeps the rules.
+mod figures;
 mod numbers;
 mod places;
 mod queues;

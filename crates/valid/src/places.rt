@@ -13,6 +13,7 @@ ghost use Rattle.table.specs.Spent.{spentSize};
 ghost use Rattle.table.specs.Blocks.{placeSize, placeWords, blocksSize, layout};
 ghost use Rattle.table.specs.Search.{hasAllSlots};
 ghost use Rattle.valid.specs.Rules.{headStands, placeStands, placeSpent, placeValid, blocksValid};
+use crate::figures::figures_stand;
 use crate::numbers::numbers_distinct;
 use crate::queues::all_zero;
 use crate::queues::queue_stands;
@@ -20,6 +21,7 @@ use crate::queues::queue_well;
 use protocol::coded_good;
 use table::BLOCKS_WORDS;
 use table::DRAIN;
+use table::FIGURES_END;
 use table::FORMAT;
 use table::INPUTS;
 use table::LIVE;
@@ -31,6 +33,7 @@ use table::QUEUES_END;
 use table::SPENT_END;
 use table::TABLE_WORDS;
 use table::TICKET;
+use table::TOTAL_AT;
 use table::UNUSED;
 
 // Whether eight words, the first of them 1, are the head of a live stream.
@@ -137,7 +140,7 @@ fn blocks_valid(b: &[u32], spent: &[u32]) -> bool
     numbers_distinct(b, PLACE_WORDS, PLACES)
 }
 
-// Whether the used words of a table are valid: its blocks are, and the words without use behind the spent numbers are zero.
+// Whether the used words of a table are valid: its blocks are, the figures are theirs, and the words without use before and behind the figures are zero.
 pub fn valid(t: &[u32]) -> bool
     requires { ⌜ length (now t) ≡ tableWords ⌝ }
     ensures { λ r. ⌜ r ≡ tables.valid layout (now (t .entry)) ⌝ }
@@ -145,5 +148,11 @@ pub fn valid(t: &[u32]) -> bool
     if !blocks_valid(&t[0..BLOCKS_WORDS], &t[BLOCKS_WORDS..SPENT_END]) {
         return false;
     }
-    all_zero(&t[SPENT_END..TABLE_WORDS])
+    if !all_zero(&t[SPENT_END..TOTAL_AT]) {
+        return false;
+    }
+    if !figures_stand(&t[0..BLOCKS_WORDS], &t[TOTAL_AT..FIGURES_END]) {
+        return false;
+    }
+    all_zero(&t[FIGURES_END..TABLE_WORDS])
 }

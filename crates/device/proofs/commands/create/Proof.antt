@@ -12,7 +12,7 @@ use Rattle.table.proofs.Bridge.{vacant-found}
 use Rattle.laws.proofs.Tests.{was-true, was-false}
 use Rattle.device.proofs.Known.{create-unusable, create-bad, create-full, create-done}
 use Rattle.queue.proofs.Finds.{found-within}
-use Rattle.device.proofs.Served.{usable-new, error-served, created-served, was-vacant, was-full}
+use Rattle.device.proofs.Served.{usable-new, error-served, added-back, created-served, was-vacant, was-full}
 use borrow.Author.Needs.{needs}
 use Rattle.device.proofs.commands.create.Statement.{statement}
 use Rattle.device.proofs.commands.create.Tie as tie
@@ -99,6 +99,12 @@ add-stream-requires c κs =
     let start = after-unusable .before .before .before .before .before in
     (start .pre .0, found-within streamPlaces (after-place .place .given .1) (after-vacant-place .vacant-place .ensures .0), after-unusable .unusable .ensures .0 (else1 .if1 .left))
 
+settle-requires : tie.Need-settle-requires
+settle-requires c κs =
+    let after-add-stream = c .before .before .before in let after-place = after-add-stream .before .before .before .before in
+    let after-vacant-place = after-place .before .before in
+    (after-add-stream .add-stream .ensures .0, found-within streamPlaces (after-place .place .given .1) (after-vacant-place .vacant-place .ensures .0))
+
 put-plain-requires-4 : tie.Need-put-plain-requires-4
 put-plain-requires-4 c κs = search needs
 
@@ -110,18 +116,22 @@ same-length-8 c = search needs
 
 returns-4 : tie.Need-returns-4
 returns-4 c d h =
-    let after-put-plain4 = c .before .before in let after-add-stream = after-put-plain4 .before .before .before .before in
-    let after-coded-format = after-add-stream .before .before in let after-place = after-coded-format .before .before in
-    let after-vacant-place = after-place .before .before in let else2 = after-vacant-place .before .before in let after-creation-good = else2 .before in
-    let else1 = after-creation-good .before in let after-unusable = else1 .before in let start = after-unusable .before .before .before .before .before in
+    let after-put-plain4 = c .before .before in let after-settle = after-put-plain4 .before .before .before .before in
+    let after-add-stream = after-settle .before .before .before .before in let after-coded-format = after-add-stream .before .before in
+    let after-place = after-coded-format .before .before in let after-vacant-place = after-place .before .before in
+    let else2 = after-vacant-place .before .before in let after-creation-good = else2 .before in let else1 = after-creation-good .before in
+    let after-unusable = else1 .before in let start = after-unusable .before .before .before .before .before in
     let n = start .args .stream in
     let t = start .args .ticket in
     let f = start .args .frame .now in
     let usable = sym (after-unusable .unusable .ensures .1 d h) ∙ else1 .if1 .left in
+    let new = usable-new h n usable in
     let place = was-vacant h (after-vacant-place .vacant-place .ensures .1) _ (after-place .place .given .1) in
     created-served h n t f (newStream (codedFormat f))
     (create-done f (around d n) n t _ (start .pre .1) usable (was-true (after-creation-good .creation-good .ensures) (else2 .if2 .left)) (vacant-found (d .places) _ place .room))
-    (after-add-stream .add-stream .ensures d h (usable-new h n usable) place ∙ ap (λ (m : ℕ). encode (putBack n (some (newStream m)) d)) (after-coded-format .coded-format .ensures))
+    (after-settle .settle .ensures _ _ (after-add-stream .add-stream .ensures .1 d h new place)
+    ∙ ap encode (added-back h n _ (found-within streamPlaces (after-place .place .given .1) (after-vacant-place .vacant-place .ensures .0)) new place _)
+    ∙ ap (λ (m : ℕ). encode (putBack n (some (newStream m)) d)) (after-coded-format .coded-format .ensures))
     (after-put-plain4 .put-plain4 .ensures)
 
 pub create-spec : {M : Type 1} → statement M
@@ -147,6 +157,7 @@ create-spec =
     returns-3
     coded-format-requires
     add-stream-requires
+    settle-requires
     put-plain-requires-4
     same-length-7
     same-length-8

@@ -78,6 +78,12 @@ in-block-requires c κs =
       search needs,
     )
 
+settle-requires : tie.Need-settle-requires
+settle-requires c κs =
+    let after-in-block-arg2 = c .before .before .before .before .before .before in let after-found = after-in-block-arg2 .before .before .before in
+    let after-live-place = after-found .before .before in
+    (search needs, found-within 8 (after-found .found .given .1) (after-live-place .live-place .ensures .0))
+
 same-length-3 : tie.Need-same-length-3
 same-length-3 c = search needs
 
@@ -86,14 +92,16 @@ same-length-4 c = search needs
 
 returns-2 : tie.Need-returns-2
 returns-2 c d h =
-    let after-in-block = c .before .before .before .before in let after-found = after-in-block .before .before .before .before in
-    let after-live-place = after-found .before .before in let start = after-live-place .before .before .before .before .before in
+    let after-settle = c .before .before in let after-in-block = after-settle .before .before .before .before .before .before in
+    let after-found = after-in-block .before .before .before .before in let after-live-place = after-found .before .before in
+    let start = after-live-place .before .before .before .before .before in
     let a = start .args in
     let e = after-found .found .given .1 in
     let s = after-live-place .live-place .ensures in
     in-block h (a .stream) _ (found-within 8 e (s .0)) (was-found h (s .1) _ e) (command (a .ticket) (a .frame .now))
     (λ b x. answered-command (around d (a .stream)) b (a .ticket) (a .frame .now)
     (replied-as (to-live (a .frame .now) (around d (a .stream)) (a .stream) (a .ticket) _ b (start .pre .2)) (after-in-block .in-block .ensures b x)))
+    (after-settle .settle .ensures)
 
 pub to-live-spec : {M : Type 1} → statement M
 to-live-spec =
@@ -113,6 +121,7 @@ to-live-spec =
     part-in-block-start
     part-in-block-end
     in-block-requires
+    settle-requires
     same-length-3
     same-length-4
     returns-2)

@@ -2,6 +2,7 @@
 use borrow.Author.Needs.{needs}
 use Rattle.model.specs.Device.{newStream}
 use Rattle.device.proofs.Served.{stream-added}
+use Rattle.model.proofs.Sizes.{new-sixteen}
 use Rattle.device.proofs.places.add_stream.Statement.{statement}
 use Rattle.device.proofs.places.add_stream.Tie as tie
 
@@ -42,10 +43,14 @@ same-length : tie.Need-same-length
 same-length c = search needs
 
 returns : tie.Need-returns
-returns c d h new found =
+returns c =
     let after-new-stream = c .before .before in let after-spend = after-new-stream .before .before .before .before in
-    let start = after-spend .before .before .before in
-    stream-added h (start .args .number) (start .args .k) (start .pre .1) new found (newStream (start .args .format)) (after-spend .spend .ensures) (after-new-stream .new-stream .ensures)
+    let start = after-spend .before .before .before in (
+      search needs,
+      λ d h new found. stream-added h (start .args .number) (start .args .k) (start .pre .1) new found (newStream (start .args .format))
+          (new-sixteen (start .args .format)) (start .pre .2)
+          (after-spend .spend .ensures) (after-new-stream .new-stream .ensures),
+    )
 
 pub add-stream-spec : {M : Type 1} → statement M
 add-stream-spec =

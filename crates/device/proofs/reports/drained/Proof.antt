@@ -52,6 +52,12 @@ part-drained-end c = omega (arith, found-within 8 (c .before .found .given .1) (
 drained-requires : tie.Need-drained-requires
 drained-requires c κs = search needs
 
+settle-requires : tie.Need-settle-requires
+settle-requires c κs =
+    let after-drained-arg2 = c .before .before .before .before .before .before in let after-found = after-drained-arg2 .before .before .before in
+    let after-live-place = after-found .before .before in
+    (search needs, found-within 8 (after-found .found .given .1) (after-live-place .live-place .ensures .0))
+
 same-length-2 : tie.Need-same-length-2
 same-length-2 c = search needs
 
@@ -61,12 +67,13 @@ same-length-3 c = search needs
 returns-2 : tie.Need-returns-2
 unfolding serve
 returns-2 c d h =
-    let after-drained = c .before .before .before .before in let after-found = after-drained .before .before .before .before in
-    let after-live-place = after-found .before .before in let start = after-live-place .before .before .before .before in
+    let after-settle = c .before .before in let after-drained = after-settle .before .before .before .before .before .before in
+    let after-found = after-drained .before .before .before .before in let after-live-place = after-found .before .before in
+    let start = after-live-place .before .before .before .before in
     let s = after-live-place .live-place .ensures in
     let e = after-found .found .given .1 in
     in-block h (start .args .stream) _ (found-within 8 e (s .0)) (was-found h (s .1) _ e) (drained (start .args .stream))
-    (after-drained .drained .ensures)
+    (after-drained .drained .ensures) (after-settle .settle .ensures)
 
 pub drained-spec : {M : Type 1} → statement M
 drained-spec =
@@ -85,6 +92,7 @@ drained-spec =
     part-drained-start
     part-drained-end
     drained-requires
+    settle-requires
     same-length-2
     same-length-3
     returns-2)

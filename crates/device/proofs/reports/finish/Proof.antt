@@ -62,6 +62,12 @@ part-finish-end c = omega (arith, found-within 8 (c .before .found .given .1) (c
 finish-requires : tie.Need-finish-requires
 finish-requires c κs = search needs
 
+settle-requires : tie.Need-settle-requires
+settle-requires c κs =
+    let after-finish-arg2 = c .before .before .before .before .before .before in let after-found = after-finish-arg2 .before .before .before in
+    let after-live-place = after-found .before .before in
+    (search needs, found-within 8 (after-found .found .given .1) (after-live-place .live-place .ensures .0))
+
 same-length-2 : tie.Need-same-length-2
 same-length-2 c = search needs
 
@@ -71,13 +77,14 @@ same-length-3 c = search needs
 returns-3 : tie.Need-returns-3
 unfolding serve
 returns-3 c d h =
-    let after-finish = c .before .before .before .before in let after-found = after-finish .before .before .before .before in
-    let after-live-place = after-found .before .before in let start = after-live-place .before .before .before .before .before in
+    let after-settle = c .before .before in let after-finish = after-settle .before .before .before .before .before .before in
+    let after-found = after-finish .before .before .before .before in let after-live-place = after-found .before .before in
+    let start = after-live-place .before .before .before .before .before in
     let s = after-live-place .live-place .ensures in
     let e = after-found .found .given .1 in
     in-block h (start .args .stream) _ (found-within 8 e (s .0)) (was-found h (s .1) _ e)
     (finish (start .args .stream) (start .args .queue) (start .args .resource) (start .args .flags) (start .args .timestamp))
-    (after-finish .finish .ensures)
+    (after-finish .finish .ensures) (after-settle .settle .ensures)
 
 pub finish-spec : {M : Type 1} → statement M
 finish-spec =
@@ -98,6 +105,7 @@ finish-spec =
     part-finish-start
     part-finish-end
     finish-requires
+    settle-requires
     same-length-2
     same-length-3
     returns-3)

@@ -1,0 +1,63 @@
+-- The test whether words are the figures of places, place by place, and the total.
+use mathlib.Core.Path.{_≡_, refl, sym, ap, ap₂, _∙_}
+use mathlib.Core.Bool.{Bool, true, false, _&&_, and-true, and-false}
+use mathlib.Core.List.{List, [], _∷_, _++_, map}
+use Prim.Native.Nat.{ℕ, _+_, _%_, _^_, _<_}
+use native.Mathlib.Omega.{arith}
+use lib.ListN.{length, getD, take, drop, length-map, length-drop}
+use lib.Seq.{drop-drop, take-all, getD-take, getD-drop, length-take-le}
+use lib.Dec.{eqb}
+use Rattle.laws.specs.Lists.{allOf, same, total}
+use Rattle.laws.specs.Tests.{allBelow}
+use Rattle.laws.specs.Parts.{part}
+use Rattle.laws.proofs.Tests.{and-right, all-ext, below-both}
+use Rattle.laws.proofs.Same.{same-cut, same-true}
+use Rattle.laws.proofs.Pieces.{same-places}
+use Rattle.model.specs.Numbers.{streamPlaces}
+use Rattle.model.specs.Device.{Place, vacant, pendingAt, pendingInAll}
+use Rattle.table.specs.Figures.{figuresSize, placeMark, figureWords}
+use Rattle.table.specs.Search.{placeAt, hasAllSlots}
+use Rattle.table.proofs.Counted.{sum-is}
+use Rattle.valid.specs.Rules.{countedAt}
+
+first-word : (w : List ℕ) (v : ℕ) → 0 < length w → same (take 1 w) (v ∷ []) ≡ eqb (getD w 0 0) v
+unfolding same
+first-word [] v h = absurd (omega arith)
+first-word (x ∷ w) v h = and-true (eqb x v)
+
+module _ (w : List ℕ) (ps : List Place) (long : length w ≡ figuresSize) (eight : length ps ≡ streamPlaces) where
+  -- the words from a on, by their places
+  word-test : (f : Place → ℕ) (a : ℕ) → a + streamPlaces < figuresSize + 1 → same (part a streamPlaces w) (map f ps) ≡ allBelow streamPlaces (λ k. eqb (getD w (a + k) 0) (f (placeAt k ps)))
+  word-test f a h =
+      same-places vacant f (part a streamPlaces w) ps (length-take-le streamPlaces (drop a w) (omega (arith, length-drop a w)) ∙ sym eight)
+      ∙ ap (λ (n : ℕ). allBelow n (λ k. eqb (getD (part a streamPlaces w) k 0) (f (placeAt k ps)))) eight
+      ∙ all-ext _ _ streamPlaces (λ k l. ap (λ (v : ℕ). eqb v (f (placeAt k ps))) (getD-take streamPlaces (drop a w) k 0 l ∙ getD-drop a w k 0))
+
+  counted-test : allBelow streamPlaces (countedAt w ps) ≡ (same (part 1 streamPlaces w) (map placeMark ps) && same (part 9 streamPlaces w) (map pendingAt ps))
+  counted-test = below-both _ _ streamPlaces ∙ sym (ap₂ (λ (x y : Bool). x && y) (word-test placeMark 1 (omega arith)) (word-test pendingAt 9 (omega arith)))
+
+  -- the total, and the words of each place
+  figures-test : same w (figureWords ps) ≡ (eqb (getD w 0 0) (pendingInAll ps) && allBelow streamPlaces (countedAt w ps))
+  unfolding figureWords
+  figures-test =
+      let marks = map placeMark ps in
+      let figures = map pendingAt ps in
+      same-cut w (pendingInAll ps ∷ []) (marks ++ figures) 1 (omega arith) refl
+      ∙ ap₂ (λ (x y : Bool). x && y) (first-word w (pendingInAll ps) (omega arith))
+      (same-cut (drop 1 w) marks figures streamPlaces (omega (arith, length-drop 1 w)) (length-map ps placeMark ∙ eight)
+      ∙ ap (λ (x : List ℕ). same (part 1 streamPlaces w) marks && same x figures) (drop-drop streamPlaces 1 w ∙ sym (take-all streamPlaces (drop 9 w) (omega (arith, length-drop 9 w))))
+      ∙ sym counted-test)
+
+  -- where a place is not counted right, they do not stand
+  pub figures-fail : allBelow streamPlaces (countedAt w ps) ≡ false → same w (figureWords ps) ≡ false
+  figures-fail e = figures-test ∙ ap (λ (x : Bool). eqb (getD w 0 0) (pendingInAll ps) && x) e ∙ and-false (eqb (getD w 0 0) (pendingInAll ps))
+
+  -- and where each is, the total is left to test: it is the sum of the figures
+  pub figures-hold : allOf hasAllSlots ps ≡ true → allBelow streamPlaces (countedAt w ps) ≡ true → same w (figureWords ps) ≡ eqb (getD w 0 0) (total (part 9 streamPlaces w) % 2 ^ 32)
+  figures-hold sized e =
+      let there : part 9 streamPlaces w ≡ map pendingAt ps =
+      same-true _ _ (and-right (same (part 1 streamPlaces w) (map placeMark ps)) _ (sym counted-test ∙ e)) in
+      figures-test
+      ∙ ap (λ (x : Bool). eqb (getD w 0 0) (pendingInAll ps) && x) e
+      ∙ and-true (eqb (getD w 0 0) (pendingInAll ps))
+      ∙ ap (eqb (getD w 0 0)) (sym (sum-is (part 9 streamPlaces w) ps sized eight there))
