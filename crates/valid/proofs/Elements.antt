@@ -3,7 +3,7 @@ use mathlib.Core.Path.{_≡_, refl, sym, ap, ap₂, _∙_, subst}
 use mathlib.Core.Bool.{Bool, true, false, not, cond, _&&_, and-true, and-false}
 use mathlib.Core.Option.{none, some}
 use mathlib.Core.List.{List, [], _∷_, _++_}
-use Prim.Native.Nat.{ℕ, _+_, _*_, _%_, _<_, _≤_}
+use Prim.Native.Nat.{ℕ, suc, _+_, _-_, _*_, _%_, _<_, _≤_}
 use native.Mathlib.Nat.{add-zero, mul-suc, mul-le-mul-left}
 use native.Mathlib.Omega.{arith}
 use lib.ListN.{length, getD, set, drop, length-set, drop-of-length-le}
@@ -28,6 +28,10 @@ use Rattle.valid.specs.Rules.{wordsNumber, numbersFrom, Apart, Told}
 -- an element lies within the words
 pub element-inside : (step count i : ℕ) → i < count → step * i + step ≤ step * count
 element-inside step count i h = omega (arith, mul-suc step i, mul-le-mul-left step h)
+
+-- where the one before it starts
+pub before-element : (step i : ℕ) → 0 < i → step * i ≡ step * (i - 1) + step
+before-element step i h = ap (λ (k : ℕ). step * k) (let next : i ≡ suc (i - 1) = omega arith in next) ∙ mul-suc step (i - 1) ∙ (omega arith)
 
 -- Element by element
 
@@ -57,11 +61,12 @@ module _ (w : List ℕ) (step count : ℕ) where
         numbers-from wordsNumber elements i [] (omega (arith, read-length (λ x. x) step count w))
         ∙ ap₂ (λ (s n : ℕ). toList (cond (eqb s 0) none (some n)) ++ numbersIn wordsNumber (drop (i + 1) elements)) state (word 1 (omega arith))
 
-    pub from-empty : getD w (step * i) 0 ≡ 0 → numbersFrom i step count w ≡ numbersFrom (i + 1) step count w
-    from-empty e = element ∙ rw e
+    -- its words start at a
+    pub from-empty : {a : ℕ} → a ≡ step * i → getD w a 0 ≡ 0 → numbersFrom i step count w ≡ numbersFrom (i + 1) step count w
+    from-empty {a} at e = element ∙ rw (← at, e)
 
-    pub from-number : (getD w (step * i) 0 ≡ 0 → ⊥) → numbersFrom i step count w ≡ getD w (step * i + 1) 0 ∷ numbersFrom (i + 1) step count w
-    from-number e = element ∙ rw (ne-eqb (getD w (step * i) 0) 0 e)
+    pub from-number : {a : ℕ} → a ≡ step * i → (getD w a 0 ≡ 0 → ⊥) → numbersFrom i step count w ≡ getD w (a + 1) 0 ∷ numbersFrom (i + 1) step count w
+    from-number {a} at e = element ∙ rw (← at, ne-eqb (getD w a 0) 0 e)
 
     -- a number stands in the elements from i on where it stands in this one or behind it
     pub stands-step : (n : ℕ) → standsIn n (numbersFrom i step count w) ≡ cond (eqb (getD w (step * i + 1) 0) n && not (eqb (getD w (step * i) 0) 0)) true (standsIn n (numbersFrom (i + 1) step count w))

@@ -1,6 +1,6 @@
 -- The test whether words are the figures of places, place by place, and the total.
 use mathlib.Core.Path.{_≡_, refl, sym, ap, ap₂, _∙_}
-use mathlib.Core.Bool.{Bool, true, false, _&&_, and-true, and-false}
+use mathlib.Core.Bool.{Bool, true, _&&_, and-true}
 use mathlib.Core.List.{List, [], _∷_, _++_, map}
 use Prim.Native.Nat.{ℕ, _+_, _%_, _^_, _<_}
 use native.Mathlib.Omega.{arith}
@@ -18,7 +18,10 @@ use Rattle.model.specs.Device.{Place, vacant, pendingAt, pendingInAll}
 use Rattle.table.specs.Figures.{figuresSize, placeMark, figureWords}
 use Rattle.table.specs.Search.{placeAt, hasAllSlots}
 use Rattle.table.proofs.Counted.{sum-is}
-use Rattle.valid.specs.Rules.{countedAt}
+
+-- of the figures those of place k, its mark and its figure, are what its record gives
+abbrev pub countedAt : List ℕ → List Place → ℕ → Bool
+countedAt w ps k = eqb (getD w (1 + k) 0) (placeMark (placeAt k ps)) && eqb (getD w (9 + k) 0) (pendingAt (placeAt k ps))
 
 first-word : (w : List ℕ) (v : ℕ) → 0 < length w → same (take 1 w) (v ∷ []) ≡ eqb (getD w 0 0) v
 unfolding same
@@ -37,7 +40,7 @@ module _ (w : List ℕ) (ps : List Place) (long : length w ≡ figuresSize) (eig
   counted-test = below-both _ _ streamPlaces ∙ sym (ap₂ (λ (x y : Bool). x && y) (word-test placeMark 1 (omega arith)) (word-test pendingAt 9 (omega arith)))
 
   -- the total, and the words of each place
-  figures-test : same w (figureWords ps) ≡ (eqb (getD w 0 0) (pendingInAll ps) && allBelow streamPlaces (countedAt w ps))
+  pub figures-test : same w (figureWords ps) ≡ (eqb (getD w 0 0) (pendingInAll ps) && allBelow streamPlaces (countedAt w ps))
   unfolding figureWords
   figures-test =
       let marks = map placeMark ps in
@@ -48,16 +51,6 @@ module _ (w : List ℕ) (ps : List Place) (long : length w ≡ figuresSize) (eig
       ∙ ap (λ (x : List ℕ). same (part 1 streamPlaces w) marks && same x figures) (drop-drop streamPlaces 1 w ∙ sym (take-all streamPlaces (drop 9 w) (omega (arith, length-drop 9 w))))
       ∙ sym counted-test)
 
-  -- where a place is not counted right, they do not stand
-  pub figures-fail : allBelow streamPlaces (countedAt w ps) ≡ false → same w (figureWords ps) ≡ false
-  figures-fail e = figures-test ∙ ap (λ (x : Bool). eqb (getD w 0 0) (pendingInAll ps) && x) e ∙ and-false (eqb (getD w 0 0) (pendingInAll ps))
-
-  -- and where each is, the total is left to test: it is the sum of the figures
-  pub figures-hold : allOf hasAllSlots ps ≡ true → allBelow streamPlaces (countedAt w ps) ≡ true → same w (figureWords ps) ≡ eqb (getD w 0 0) (total (part 9 streamPlaces w) % 2 ^ 32)
-  figures-hold sized e =
-      let there : part 9 streamPlaces w ≡ map pendingAt ps =
-      same-true _ _ (and-right (same (part 1 streamPlaces w) (map placeMark ps)) _ (sym counted-test ∙ e)) in
-      figures-test
-      ∙ ap (λ (x : Bool). eqb (getD w 0 0) (pendingInAll ps) && x) e
-      ∙ and-true (eqb (getD w 0 0) (pendingInAll ps))
-      ∙ ap (eqb (getD w 0 0)) (sym (sum-is (part 9 streamPlaces w) ps sized eight there))
+  -- where each place is counted right, the sum of the figures is that of all
+  pub counted-sum : allOf hasAllSlots ps ≡ true → allBelow streamPlaces (countedAt w ps) ≡ true → total (part 9 streamPlaces w) % 2 ^ 32 ≡ pendingInAll ps
+  counted-sum sized e = sum-is (part 9 streamPlaces w) ps sized eight (same-true _ _ (and-right (same (part 1 streamPlaces w) (map placeMark ps)) _ (sym counted-test ∙ e)))

@@ -1,5 +1,5 @@
 pub mod Elements
 pub mod QueueStands
-pub mod PlaceStands
 pub mod FigureStands
+pub mod PlaceStands
 pub mod Good

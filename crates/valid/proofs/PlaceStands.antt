@@ -1,35 +1,36 @@
 -- The test whether words are those of the device that they stand for, block by block and part by part.
 use mathlib.Core.Path.{_≡_, refl, sym, ap, ap₂, _∙_, subst}
-use mathlib.Core.Bool.{Bool, true, false, _&&_, and-true, and-false, and-assoc}
+use mathlib.Core.Bool.{Bool, true, false, _&&_, and-true, and-false, and-comm, and-assoc}
 use mathlib.Core.List.{List, [], _∷_, _++_}
-use Prim.Native.Nat.{ℕ, _+_, _*_, _^_, _<_, _≤_}
+use Prim.Native.Nat.{ℕ, _+_, _*_, _%_, _^_, _<_, _≤_}
 use native.Mathlib.Omega.{arith}
 use lib.ListN.{length, getD, take, drop, length-drop, List·getD-eq-default}
 use lib.Seq.{drop-drop, take-all, length-take-le, getD-take, getD-drop}
 use lib.Dec.{eqb, ltb, lit<}
 use borrow.Author.Tests.{eq-eqb, ne-eqb, ltb-true, ltb-false}
-use Rattle.laws.specs.Lists.{allOf, same, distinct}
+use Rattle.laws.specs.Lists.{allOf, same, distinct, total}
 use Rattle.laws.specs.Tests.{allBelow}
 use Rattle.laws.specs.Parts.{part, zeros}
-use Rattle.laws.proofs.Tests.{all-ext, below-both, and-right}
+use Rattle.laws.proofs.Tests.{all-ext, below-both, and-left, and-right}
 use Rattle.laws.proofs.Parts.{zero-length}
 use Rattle.laws.proofs.Lists.{decide, cond-elim, eqb-same}
 use Rattle.laws.proofs.Same.{same-eq, same-true, same-cut}
 use Rattle.laws.proofs.Pieces.{same-pieces, read-length, read-at, all-places, all-read, pieces-again}
 use Rattle.model.specs.Numbers.{tableWords, streamPlaces, streamNumbers}
-use Rattle.model.specs.Device.{QueueType, input, output, Stream, Place, vacant, queueOf}
+use Rattle.model.specs.Device.{QueueType, input, output, Stream, Place, vacant, queueOf, pendingAt, pendingInAll}
 use Rattle.model.specs.WellFormed.{goodPlace, distinctPlaces, goodPlaces, spentIn, wellFormed}
 use Rattle.model.specs.Tables.{valid}
 use Rattle.queue.specs.Words.{queueWords, decodeQueue}
 use Rattle.queue.proofs.Records.{queue-length, decoded-slots}
 use Rattle.table.specs.Spent.{spentSize, spentWords, decodeSpent}
-use Rattle.table.specs.Figures.{totalAt, figuresSize, figureWords}
+use Rattle.table.specs.Figures.{totalAt, figuresSize, placeMark, figureWords}
 use Rattle.table.specs.Blocks.{placeSize, headWords, placeWords, blocks, blocksSize, gapSize, unusedSize, behind, encode, drainIn, decodePlace, placesIn, decode, layout}
 use Rattle.table.specs.Search.{placeAt, hasAllSlots}
-use Rattle.valid.specs.Rules.{headStands, placeStands, placeSpent, placeValid, numbersFrom, blocksValid}
+use Rattle.valid.specs.Rules.{headStands, placeStands, placeSpent, placeValid, placeRight, numbersFrom, blocksValid, blocksRight}
 use Rattle.table.proofs.Bits.{spent-length, all-words, spent-decoded, spent-again}
 use Rattle.table.proofs.Records.{head-length, queue-sized, place-length, blocks-length, figure-length}
 use Rattle.valid.proofs.Elements.{places-numbers}
+use Rattle.valid.proofs.FigureStands.{countedAt, figures-test, counted-sum}
 
 -- What is decoded has its sizes
 
@@ -106,6 +107,21 @@ module _ (b : List ℕ) (long : length b ≡ 512) (live : getD b 0 0 ≡ 1) wher
       rw (eq-eqb (getD b 0 0) 1 live)
       (cut8 ∙ ap (λ (x : Bool). headStands (take 8 b) && x) (cut92 ∙ ap (λ (x : Bool). queueStands 8 && x) cut176))
 
+-- a vacant block, with its mark and its figure: each of the three tests may fail
+module _ (spent : List ℕ) (mark figure : ℕ) (b : List ℕ) (first : getD b 0 0 ≡ 0) where
+  vacant-right : placeRight spent mark figure b ≡ (same b (zeros 512) && (eqb mark 0 && eqb figure 0))
+  unfolding placeRight placeSpent decodePlace placeWords
+  vacant-right = rw (ne-eqb (getD b 0 0) 1 (λ e. omega (arith, first, e)))
+
+  pub vacant-marked : (mark ≡ 0 → ⊥) → false ≡ placeRight spent mark figure b
+  vacant-marked h = sym (vacant-right ∙ rw (ne-eqb mark 0 h) (and-false (same b (zeros 512))))
+
+  pub vacant-counted : mark ≡ 0 → (figure ≡ 0 → ⊥) → false ≡ placeRight spent mark figure b
+  vacant-counted e h = sym (vacant-right ∙ rw (eq-eqb mark 0 e, ne-eqb figure 0 h) (and-false (same b (zeros 512))))
+
+  pub vacant-zeros : mark ≡ 0 → figure ≡ 0 → same b (zeros 512) ≡ placeRight spent mark figure b
+  vacant-zeros e h = sym (vacant-right ∙ rw (eq-eqb mark 0 e, eq-eqb figure 0 h) (and-true (same b (zeros 512))))
+
 -- The eight words before the queues, by the drain's first word
 
 eight : (P : List ℕ → Type 0) → ((a n f o t x y z : ℕ) → P (a ∷ n ∷ f ∷ o ∷ t ∷ x ∷ y ∷ z ∷ [])) → (h : List ℕ) → length h ≡ 8 → P h
@@ -176,10 +192,6 @@ blocks-test t w long =
 blocks-length-of : (t : List ℕ) → length (blocks (placesIn t)) ≡ blocksSize
 blocks-length-of t = omega (arith, blocks-length (placesIn t) (decode-sized t), decode-eight t)
 
--- blocks that are valid are those of the places that they stand for
-pub blocks-stand : (t w : List ℕ) → length t ≡ blocksSize → blocksValid w t ≡ true → t ≡ blocks (placesIn t)
-blocks-stand t w long v = same-true _ _ (and-right (goodPlaces (placesIn t) && allOf (spentIn (decodeSpent w)) (placesIn t)) _ (blocks-test t w long ∙ v))
-
 -- of the words behind the blocks those of the numbers may be any, the figures are those of the places, and the others are zero
 module _ (t : List ℕ) (long : length t ≡ tableWords) where
   abbrev numbers : List ℕ
@@ -219,7 +231,7 @@ module _ (t : List ℕ) (long : length t ≡ tableWords) where
         ∙ ap (λ (w : List ℕ). same (part totalAt figuresSize t) (figureWords ps) && same w (zeros unusedSize))
         (sym (take-all unusedSize (drop (totalAt + figuresSize) t) (omega (arith, length-drop (totalAt + figuresSize) t))))))
 
-    pub valid-test : valid layout t ≡ (blocksValid numbers (take blocksSize t) && restValid (placesIn (take blocksSize t)))
+    valid-test : valid layout t ≡ (blocksValid numbers (take blocksSize t) && restValid (placesIn (take blocksSize t)))
     unfolding valid wellFormed encode decode
     valid-test =
         let b = take blocksSize t in
@@ -234,3 +246,63 @@ module _ (t : List ℕ) (long : length t ≡ tableWords) where
         ∙ ap₂ (λ (x y : Bool). (goodPlaces ps && (x && spent)) && y) (eq-eqb (length s) streamNumbers (spent-decoded numbers numbers-size)) cut
         ∙ sym (and-assoc (goodPlaces ps && spent) (same b (blocks ps)) (restValid ps))
         ∙ ap (λ (x : Bool). x && restValid ps) (blocks-test b numbers (length-take-le blocksSize t (omega arith)))
+
+    -- the mark and the figure of each place are tested with its block, and the figure of all behind them
+    abbrev figures : List ℕ
+    figures = part totalAt figuresSize t
+
+    abbrev front : List ℕ
+    front = take blocksSize t
+
+    regroup : (s g p c : Bool) → (s && (g && p)) && c ≡ s && (g && (p && c))
+    regroup s g p c = and-assoc s (g && p) c ∙ ap (λ (x : Bool). s && x) (and-assoc g p c)
+
+    -- the tests of all places, those of their numbers, the gap, the total, the counts and the words behind
+    reorder : (a d g t c u : Bool) → (a && d) && (g && ((t && c) && u)) ≡ ((a && c) && d) && (g && (t && u))
+    reorder false d g t c u = refl
+    reorder true false g t c u = ap (λ (x : Bool). x && (g && (t && u))) (sym (and-false c))
+    reorder true true false t c u = sym (and-false (c && true))
+    reorder true true true false c u = sym (and-false (c && true))
+    reorder true true true true c u = ap (λ (x : Bool). x && u) (sym (and-true c))
+
+    each-right : (allBelow streamPlaces (λ k. placeValid numbers (part (placeSize * k) placeSize front)) && allBelow streamPlaces (countedAt figures (placesIn front)))
+        ≡ allBelow streamPlaces (λ k. placeRight numbers (getD figures (1 + k) 0) (getD figures (9 + k) 0) (part (placeSize * k) placeSize front))
+    unfolding placeValid placeRight placesIn
+    each-right =
+        sym (below-both _ _ streamPlaces)
+        ∙ all-ext _ _ streamPlaces (λ k h.
+        let w = part (placeSize * k) placeSize front in
+        let mark = getD figures (1 + k) 0 in
+        let figure = getD figures (9 + k) 0 in
+        ap (λ (p : Place). placeValid numbers w && (eqb mark (placeMark p) && eqb figure (pendingAt p))) (read-at decodePlace placeSize streamPlaces front k vacant h)
+        ∙ regroup (placeStands w) (goodPlace (decodePlace w)) (placeSpent numbers w) (eqb mark (placeMark (decodePlace w)) && eqb figure (pendingAt (decodePlace w))))
+
+    abbrev gapZero : Bool
+    gapZero = same (part (blocksSize + spentSize) gapSize t) (zeros gapSize)
+
+    abbrev unusedZero : Bool
+    unusedZero = same (part (totalAt + figuresSize) unusedSize t) (zeros unusedSize)
+
+    abbrev totalRight : Bool
+    totalRight = eqb (getD figures 0 0) (pendingInAll (placesIn front))
+
+    figures-size : length figures ≡ figuresSize
+    figures-size = length-take-le figuresSize (drop totalAt t) (omega (arith, length-drop totalAt t))
+
+    pub right-test : valid layout t ≡ (blocksRight numbers figures front && (gapZero && (totalRight && unusedZero)))
+    unfolding blocksValid blocksRight
+    right-test =
+        let ps = placesIn front in
+        let each = allBelow streamPlaces (λ k. placeValid numbers (part (placeSize * k) placeSize front)) in
+        let once = distinct (numbersFrom 0 placeSize streamPlaces front) in
+        valid-test
+        ∙ ap (λ (x : Bool). (each && once) && (gapZero && (x && unusedZero))) (figures-test figures ps figures-size (decode-eight front))
+        ∙ reorder each once gapZero totalRight (allBelow streamPlaces (countedAt figures ps)) unusedZero
+        ∙ ap (λ (x : Bool). (x && once) && (gapZero && (totalRight && unusedZero))) each-right
+
+    -- where the blocks are right, the total that is kept has to be the sum of the figures
+    pub right-sum : blocksRight numbers figures front ≡ true → total (part 9 streamPlaces figures) % 2 ^ 32 ≡ pendingInAll (placesIn front)
+    unfolding blocksRight
+    right-sum e =
+        counted-sum figures (placesIn front) figures-size (decode-eight front) (decode-sized front)
+        (and-right (allBelow streamPlaces (λ k. placeValid numbers (part (placeSize * k) placeSize front))) _ (each-right ∙ and-left _ _ e))

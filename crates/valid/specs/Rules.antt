@@ -1,21 +1,20 @@
 -- Rules of a valid table in the form in which the test looks at them.
-use Prim.Native.Nat.{ℕ, _+_, _*_, _%_}
 use mathlib.Core.Path.{_≡_}
 use mathlib.Core.Bool.{Bool, true, false, cond, _&&_}
 use mathlib.Core.Option.{Option, none, some}
 use mathlib.Core.List.{List}
+use Prim.Native.Nat.{ℕ, _+_, _*_, _%_}
 use lib.ListN.{length, getD, drop}
 use lib.Dec.{eqb}
 use Rattle.laws.specs.Lists.{same, numbersIn, standsIn, distinct}
 use Rattle.laws.specs.Tests.{allBelow}
 use Rattle.laws.specs.Parts.{part, readPieces}
 use Rattle.model.specs.Numbers.{streamPlaces}
-use Rattle.model.specs.Device.{Place, pendingAt}
+use Rattle.model.specs.Device.{pendingAt}
 use Rattle.model.specs.WellFormed.{goodPlace, spentIn}
 use Rattle.table.specs.Spent.{decodeSpent}
 use Rattle.table.specs.Figures.{placeMark}
 use Rattle.table.specs.Blocks.{placeSize, headWords, drainIn, placeWords, decodePlace}
-use Rattle.table.specs.Search.{placeAt}
 
 -- eight words are the head of the live stream that they stand for
 abbrev pub headStands : List ℕ → Bool
@@ -33,6 +32,11 @@ placeSpent spent w = spentIn (decodeSpent spent) (decodePlace w)
 unfoldable pub placeValid : List ℕ → List ℕ → Bool
 placeValid spent w = placeStands w && (goodPlace (decodePlace w) && placeSpent spent w)
 
+-- and the mark and the figure are those of the place
+unfoldable pub placeRight : List ℕ → ℕ → ℕ → List ℕ → Bool
+placeRight spent mark figure w =
+    placeStands w && (goodPlace (decodePlace w) && (placeSpent spent w && (eqb mark (placeMark (decodePlace w)) && eqb figure (pendingAt (decodePlace w)))))
+
 -- the number in an element's words: none where the first is 0, otherwise the second
 abbrev pub wordsNumber : List ℕ → Option ℕ
 wordsNumber w = cond (eqb (getD w 0 0) 0) none (some (getD w 1 0))
@@ -45,9 +49,10 @@ numbersFrom i step count w = numbersIn wordsNumber (drop i (readPieces (λ x. x)
 unfoldable pub blocksValid : List ℕ → List ℕ → Bool
 blocksValid spent w = allBelow streamPlaces (λ k. placeValid spent (part (placeSize * k) placeSize w)) && distinct (numbersFrom 0 placeSize streamPlaces w)
 
--- of the figures those of place k, its mark and its figure, are what its record gives
-abbrev pub countedAt : List ℕ → List Place → ℕ → Bool
-countedAt w ps k = eqb (getD w (1 + k) 0) (placeMark (placeAt k ps)) && eqb (getD w (9 + k) 0) (pendingAt (placeAt k ps))
+-- and the figures give the mark and the figure of each
+unfoldable pub blocksRight : List ℕ → List ℕ → List ℕ → Bool
+blocksRight spent figures w =
+    allBelow streamPlaces (λ k. placeRight spent (getD figures (1 + k) 0) (getD figures (9 + k) 0) (part (placeSize * k) placeSize w)) && distinct (numbersFrom 0 placeSize streamPlaces w)
 
 -- Sixty-four marks. Each number leaves one, so that a number whose mark is missing is new.
 

@@ -18,21 +18,29 @@ pub fn numbers_distinct(w: &[u32], step: usize, count: usize) -> bool
 {
     let mut marks: [bool; 64] = [false; 64];
     let mut i = count;
+    let mut at = step * count;
     while 0 < i {
         i -= 1;
-        if number_again(w, step, count, i, &mut marks) {
+        at -= step;
+        if number_again(w, step, count, i, at, &mut marks) {
             return false;
         }
     }
     true
 }
 
-// Whether the number in element i stands in a later one too. Where its mark is missing it does not, and it leaves its mark.
-fn number_again(w: &[u32], step: usize, count: usize, i: usize, marks: &mut [bool; 64]) -> bool
-    requires { ⌜ (2 ≤ step) × (step * count ≤ length (now w)) × (i < count) ⌝ }
+// Whether the number in element i, whose words start at `at`, stands in a later one too. Where its mark is missing it does not, and it leaves its mark.
+fn number_again(
+    w: &[u32],
+    step: usize,
+    count: usize,
+    i: usize,
+    at: usize,
+    marks: &mut [bool; 64],
+) -> bool
+    requires { ⌜ (2 ≤ step) × (step * count ≤ length (now w)) × (i < count) × (at ≡ step * i) ⌝ }
     ensures { λ r. ⌜ (Apart (now (marks .entry)) (numbersFrom (i + 1) step count (now (w .entry))) → Told r (now (marks .exit)) (numbersFrom i step count (now (w .entry)))) ⌝ }
 {
-    let at = step * i;
     if w[at] == 0 {
         return false;
     }

@@ -1,7 +1,8 @@
 // The test of a table, place by place: its words are those of a device, and the device keeps the rules.
 ghost use mathlib.Core.Path.{_≡_};
 ghost use mathlib.Core.Bool.{true};
-ghost use Prim.Native.Nat.{_*_};
+ghost use mathlib.Core.List.{List};
+ghost use Prim.Native.Nat.{ℕ, _+_, _*_};
 ghost use lib.ListN.{length, getD};
 ghost use Rattle.laws.specs.Parts.{part};
 ghost use Rattle.laws.specs.Tests.{allBelow};
@@ -10,10 +11,12 @@ ghost use Rattle.model.specs.Device.{Place};
 ghost use Rattle.model.specs.WellFormed.{goodPlace};
 ghost use Rattle.model.specs.Tables as tables;
 ghost use Rattle.table.specs.Spent.{spentSize};
+ghost use Rattle.table.specs.Figures.{figuresSize};
 ghost use Rattle.table.specs.Blocks.{placeSize, placeWords, blocksSize, layout};
 ghost use Rattle.table.specs.Search.{hasAllSlots};
-ghost use Rattle.valid.specs.Rules.{headStands, placeStands, placeSpent, placeValid, blocksValid};
-use crate::figures::figures_stand;
+ghost use Rattle.valid.specs.Rules.{headStands, placeStands, placeSpent, placeRight, blocksRight};
+use crate::figures::mark_stands;
+use crate::figures::total_stands;
 use crate::numbers::numbers_distinct;
 use crate::queues::all_zero;
 use crate::queues::queue_stands;
@@ -22,6 +25,8 @@ use protocol::coded_good;
 use table::BLOCKS_WORDS;
 use table::DRAIN;
 use table::FIGURES_END;
+use table::FIRST_FIGURE;
+use table::FIRST_MARK;
 use table::FORMAT;
 use table::INPUTS;
 use table::LIVE;
@@ -99,10 +104,10 @@ fn place_spent(b: &[u32], spent: &[u32]) -> bool
     table::is_spent(spent, b[NUMBER])
 }
 
-// Whether a block's words are those of a place that keeps the rules, the number of its stream being spent.
-fn place_valid(b: &[u32], spent: &[u32]) -> bool
+// Whether a block's words are those of a place that keeps the rules, the number of its stream being spent, and its mark and its figure are its own.
+fn live_valid(b: &[u32], spent: &[u32], mark: u32, figure: u32) -> bool
     requires { ⌜ (length (now b) ≡ placeSize) × (length (now spent) ≡ spentSize) ⌝ }
-    ensures { λ r. ⌜ r ≡ placeValid (now (spent .entry)) (now (b .entry)) ⌝ }
+    ensures { λ r. ⌜ r ≡ placeRight (now (spent .entry)) mark figure (now (b .entry)) ⌝ }
 {
     if !place_stands(b) {
         return false;
@@ -110,18 +115,51 @@ fn place_valid(b: &[u32], spent: &[u32]) -> bool
     if !place_well(b) {
         return false;
     }
-    place_spent(b, spent)
+    if !place_spent(b, spent) {
+        return false;
+    }
+    if !mark_stands(b, mark) {
+        return false;
+    }
+    figure == table::pending_in(b)
 }
 
-// Whether the words of eight blocks are those of such places.
-fn places_valid(t: &[u32], spent: &[u32]) -> bool
-    requires { ⌜ (length (now t) ≡ blocksSize) × (length (now spent) ≡ spentSize) ⌝ }
-    ensures { λ r. ⌜ r ≡ allBelow streamPlaces (λ k. placeValid (now (spent .entry)) (part (placeSize * k) placeSize (now (t .entry)))) ⌝ }
+// The same of a block whose first word is 0: all its words are, and its mark and its figure.
+fn vacant_valid(b: &[u32], mark: u32, figure: u32) -> bool
+    requires { ⌜ (length (now b) ≡ placeSize) × (getD (now b) 0 0 ≡ 0) ⌝ }
+    ensures { λ r. ⌜ ((spent : List ℕ) → r ≡ placeRight spent mark figure (now (b .entry))) ⌝ }
+{
+    if mark != 0 {
+        return false;
+    }
+    if figure != 0 {
+        return false;
+    }
+    all_zero(b)
+}
+
+// Whether a block is right. A vacant one is told from its first word, so that most of the tests are left out.
+fn place_valid(b: &[u32], spent: &[u32], mark: u32, figure: u32) -> bool
+    requires { ⌜ (length (now b) ≡ placeSize) × (length (now spent) ≡ spentSize) ⌝ }
+    ensures { λ r. ⌜ r ≡ placeRight (now (spent .entry)) mark figure (now (b .entry)) ⌝ }
+{
+    if b[LIVE] == 0 {
+        return vacant_valid(b, mark, figure);
+    }
+    live_valid(b, spent, mark, figure)
+}
+
+// Whether the words of eight blocks are those of such places, with the marks and the figures.
+fn places_valid(t: &[u32], spent: &[u32], w: &[u32]) -> bool
+    requires { ⌜ (length (now t) ≡ blocksSize) × (length (now spent) ≡ spentSize) × (length (now w) ≡ figuresSize) ⌝ }
+    ensures { λ r. ⌜ r ≡ allBelow streamPlaces (λ k. placeRight (now (spent .entry)) (getD (now (w .entry)) (1 + k) 0) (getD (now (w .entry)) (9 + k) 0) (part (placeSize * k) placeSize (now (t .entry)))) ⌝ }
 {
     let mut k = 0;
     while k < PLACES {
         let at = PLACE_WORDS * k;
-        if !place_valid(&t[at..at + PLACE_WORDS], spent) {
+        let mark = w[FIRST_MARK + k];
+        let figure = w[FIRST_FIGURE + k];
+        if !place_valid(&t[at..at + PLACE_WORDS], spent, mark, figure) {
             return false;
         }
         k += 1;
@@ -130,28 +168,33 @@ fn places_valid(t: &[u32], spent: &[u32]) -> bool
 }
 
 // Whether the words of eight blocks are those of such places, with no stream number twice.
-fn blocks_valid(b: &[u32], spent: &[u32]) -> bool
-    requires { ⌜ (length (now b) ≡ blocksSize) × (length (now spent) ≡ spentSize) ⌝ }
-    ensures { λ r. ⌜ r ≡ blocksValid (now (spent .entry)) (now (b .entry)) ⌝ }
+fn blocks_valid(b: &[u32], spent: &[u32], w: &[u32]) -> bool
+    requires { ⌜ (length (now b) ≡ blocksSize) × (length (now spent) ≡ spentSize) × (length (now w) ≡ figuresSize) ⌝ }
+    ensures { λ r. ⌜ r ≡ blocksRight (now (spent .entry)) (now (w .entry)) (now (b .entry)) ⌝ }
 {
-    if !places_valid(b, spent) {
+    if !places_valid(b, spent, w) {
         return false;
     }
     numbers_distinct(b, PLACE_WORDS, PLACES)
 }
 
-// Whether the used words of a table are valid: its blocks are, the figures are theirs, and the words without use before and behind the figures are zero.
+// Whether the used words of a table are valid: its blocks are, with their marks and figures, the figure of all is the sum, and the words without use before and
+// behind the figures are zero.
 pub fn valid(t: &[u32]) -> bool
     requires { ⌜ length (now t) ≡ tableWords ⌝ }
     ensures { λ r. ⌜ r ≡ tables.valid layout (now (t .entry)) ⌝ }
 {
-    if !blocks_valid(&t[0..BLOCKS_WORDS], &t[BLOCKS_WORDS..SPENT_END]) {
+    if !blocks_valid(
+        &t[0..BLOCKS_WORDS],
+        &t[BLOCKS_WORDS..SPENT_END],
+        &t[TOTAL_AT..FIGURES_END],
+    ) {
         return false;
     }
     if !all_zero(&t[SPENT_END..TOTAL_AT]) {
         return false;
     }
-    if !figures_stand(&t[0..BLOCKS_WORDS], &t[TOTAL_AT..FIGURES_END]) {
+    if !total_stands(&t[TOTAL_AT..FIGURES_END]) {
         return false;
     }
     all_zero(&t[FIGURES_END..TABLE_WORDS])

@@ -1,33 +1,54 @@
--- `valid::places_valid` meets its contract. The invariant: each block below `k` is that of a place that keeps the rules.
+-- `valid::places::places_valid` meets its contract. The invariant: each block below `k` is right.
 use mathlib.Core.Path.{_≡_, sym, ap, _∙_}
 use mathlib.Core.Bool.{true}
-use Prim.Native.Nat.{ℕ, _≤_, _-_, _*_}
+use Prim.Native.Nat.{ℕ, _≤_, _+_, _-_, _*_}
 use native.Mathlib.Nat.{add-sub-cancel-left}
 use native.Mathlib.Omega.{arith}
-use borrow.Author.Tests.{not-true, not-false}
+use lib.ListN.{getD}
 use borrow.Author.Needs.{needs}
 use Rattle.laws.specs.Parts.{part}
 use Rattle.laws.specs.Tests.{allBelow}
-use Rattle.laws.proofs.Tests.{all-none, all-more, all-fails}
+use Rattle.laws.proofs.Tests.{all-none, all-more, all-fails, was-true, was-false}
 use Rattle.model.specs.Numbers.{streamPlaces}
 use Rattle.table.specs.Blocks.{placeSize}
-use Rattle.valid.specs.Rules.{placeValid}
+use Rattle.valid.specs.Rules.{placeRight}
 use Rattle.valid.proofs.places.places_valid.Statement.{statement}
 use Rattle.valid.proofs.places.places_valid.Tie as tie
 
 abbrev Inv-loop : tie.InvT-loop
-Inv-loop t spent k₀ k = (k ≤ streamPlaces) × (allBelow k (λ j. placeValid spent (part (placeSize * j) placeSize t)) ≡ true)
+Inv-loop t spent w k₀ k = (k ≤ streamPlaces) × (allBelow k (λ j. placeRight spent (getD w (1 + j) 0) (getD w (9 + j) 0) (part (placeSize * j) placeSize t)) ≡ true)
 
 abbrev μ-loop : tie.MeasureT-loop
-μ-loop t spent k₀ k = streamPlaces - k
+μ-loop t spent w k₀ k = streamPlaces - k
 
 loop-holds : tie.Need-loop-holds Inv-loop μ-loop
 loop-holds c =
-    let start = c .before .before in
-    (search needs, all-none (λ j. placeValid (start .args .spent .now) (part (placeSize * j) placeSize (start .args .t .now))))
+    let start = c .before .before .before in (
+      search needs,
+      all-none
+          (λ j. placeRight (start .args .spent .now) (getD (start .args .w .now) (1 + j) 0) (getD (start .args .w .now) (9 + j) 0) (part (placeSize * j) placeSize (start .args .t .now))),
+    )
 
 mul-at : tie.Need-mul-at Inv-loop μ-loop
 mul-at c = search needs
+
+add-mark : tie.Need-add-mark Inv-loop μ-loop
+add-mark c = search needs
+
+mul-mark : tie.Need-mul-mark Inv-loop μ-loop
+mul-mark c = search needs
+
+shared-slice-read-mark : tie.Need-shared-slice-read-mark Inv-loop μ-loop
+shared-slice-read-mark c = search needs
+
+add-figure : tie.Need-add-figure Inv-loop μ-loop
+add-figure c = search needs
+
+mul-figure : tie.Need-mul-figure Inv-loop μ-loop
+mul-figure c = search needs
+
+shared-slice-read-figure : tie.Need-shared-slice-read-figure Inv-loop μ-loop
+shared-slice-read-figure c = search needs
 
 add-place-valid : tie.Need-add-place-valid Inv-loop μ-loop
 add-place-valid c = search needs
@@ -49,10 +70,14 @@ place-valid-requires c κs = search needs
 
 returns : tie.Need-returns Inv-loop μ-loop
 returns c =
-    let after-place-valid = c .before in let at-loop = after-place-valid .before .before .before in let start = at-loop .before .before .before in
+    let after-place-valid = c .before in let in-loop = after-place-valid .before .before .before .before in let at-loop = in-loop .before in
+    let start = at-loop .before .before .before .before in
     let l = at-loop .loop in
-    let test = after-place-valid .place-valid .ensures ∙ ap (λ (n : ℕ). placeValid (start .args .spent .now) (part (placeSize * l .k) n (start .args .t .now))) (add-sub-cancel-left (placeSize * l .k) placeSize) in
-    sym (all-fails (λ j. placeValid (start .args .spent .now) (part (placeSize * j) placeSize (start .args .t .now))) streamPlaces (l .k) (search needs) (sym test ∙ not-true _ (c .if1 .taken)))
+    let test = after-place-valid .place-valid .ensures ∙ ap
+    (λ (n : ℕ). placeRight (start .args .spent .now) (getD (start .args .w .now) (1 + l .k) 0) (getD (start .args .w .now) (9 + l .k) 0)
+    (part (placeSize * l .k) n (start .args .t .now))) (add-sub-cancel-left (placeSize * l .k) placeSize) in
+    sym (all-fails (λ j. placeRight (start .args .spent .now) (getD (start .args .w .now) (1 + j) 0) (getD (start .args .w .now) (9 + j) 0)
+    (part (placeSize * j) placeSize (start .args .t .now))) streamPlaces (l .k) (in-loop .loop-test .taken) (was-false test (c .if1 .taken)))
 
 add-k : tie.Need-add-k Inv-loop μ-loop
 add-k c = search needs
@@ -62,14 +87,22 @@ loop-less c = search needs
 
 loop-again : tie.Need-loop-again Inv-loop μ-loop
 loop-again c =
-    let after-place-valid = c .before in let at-loop = after-place-valid .before .before .before in let start = at-loop .before .before .before in
+    let after-place-valid = c .before in let at-loop = after-place-valid .before .before .before .before .before in
+    let start = at-loop .before .before .before .before in
     let l = at-loop .loop in
-    let test = after-place-valid .place-valid .ensures ∙ ap (λ (n : ℕ). placeValid (start .args .spent .now) (part (placeSize * l .k) n (start .args .t .now))) (add-sub-cancel-left (placeSize * l .k) placeSize) in
-    (search needs, all-more (λ j. placeValid (start .args .spent .now) (part (placeSize * j) placeSize (start .args .t .now))) (l .k) (l .inv .1) (sym test ∙ not-false _ (c .if1 .left)))
+    let test = after-place-valid .place-valid .ensures ∙ ap
+    (λ (n : ℕ). placeRight (start .args .spent .now) (getD (start .args .w .now) (1 + l .k) 0) (getD (start .args .w .now) (9 + l .k) 0)
+    (part (placeSize * l .k) n (start .args .t .now))) (add-sub-cancel-left (placeSize * l .k) placeSize) in (
+      search needs,
+      all-more
+          (λ j. placeRight (start .args .spent .now) (getD (start .args .w .now) (1 + j) 0) (getD (start .args .w .now) (9 + j) 0)
+          (part (placeSize * j) placeSize (start .args .t .now))) (l .k) (l .inv .1) (was-true test (c .if1 .left)),
+    )
 
 returns-2 : tie.Need-returns-2 Inv-loop μ-loop
 returns-2 c =
-    let l = c .before .loop in
+    let at-loop = c .before in
+    let l = at-loop .loop in
     let end : l .k ≡ streamPlaces = omega (arith, c .loop-test .left) in
     sym (rw end at (l .inv .1))
 
@@ -81,6 +114,12 @@ places-valid-spec =
     μ-loop
     loop-holds
     mul-at
+    add-mark
+    mul-mark
+    shared-slice-read-mark
+    add-figure
+    mul-figure
+    shared-slice-read-figure
     add-place-valid
     mul-place-valid
     sub-place-valid
