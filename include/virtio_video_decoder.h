@@ -318,7 +318,7 @@ enum virtio_video_control_type {
 /* Longest command that can succeed: a resource of VIRTIO_VIDEO_MAX_ENTRIES entries */
 #define VIRTIO_VIDEO_MAX_CMD_LENGTH	4184
 
-/* Why a step was refused. Then nothing was written, and the table is as it was. */
+/* Why a step or a question was refused. Then nothing was written, and the table is as it was. */
 enum virtio_video_refusal {
 	VIRTIO_VIDEO_REFUSAL_NONE = 0,
 	/* the table has fewer than VIRTIO_VIDEO_TABLE_WORDS words */
@@ -358,6 +358,16 @@ struct virtio_video_answer {
 	virtio_video_le32 length;
 };
 
+/* The result of a question for pending answers */
+struct virtio_video_pending {
+	/* VIRTIO_VIDEO_REFUSAL_NONE or VIRTIO_VIDEO_REFUSAL_SHORT_TABLE */
+	uint32_t refusal;
+	/* how many answers are pending; 0 with a refusal */
+	uint32_t pending;
+	/* how many words of the table were read, at most 9; 0 with a refusal */
+	uint32_t words_read;
+};
+
 /* What is said of a log with its answers: that it is right, or what is wrong with a line */
 enum virtio_video_verdict_number {
 	VIRTIO_VIDEO_VERDICT_ACCEPTED = 0,
@@ -382,9 +392,9 @@ struct virtio_video_verdict {
 /*
  * What is lent to a call, until it returns:
  *
- * table, words: the device. The first VIRTIO_VIDEO_TABLE_WORDS words are read and written,
- *	those behind them never. Aligned to 4 bytes. Between the calls it is the caller's to
- *	copy, save and restore. The core keeps nothing anywhere else.
+ * table, words: the device. The first VIRTIO_VIDEO_TABLE_WORDS words are read and written, by a
+ *	question only read; those behind them never. Aligned to 4 bytes. Between the calls it is
+ *	the caller's to copy, save and restore. The core keeps nothing anywhere else.
  * frame, frame_len: the bytes of one command as the guest sent them. Only read. Any bytes
  *	and any length are safe. Copy them out of the guest's memory first: they must not
  *	change during the call.
@@ -394,8 +404,8 @@ struct virtio_video_verdict {
  *
  * A count is in elements, words or bytes, and has to be true. A pointer whose count is 0
  * may be null. The pieces of one call must not overlap, and nobody else may touch them
- * during the call. Calls on different tables may run at the same time, and checks of logs
- * beside any other call.
+ * during the call, but for reading what the call only reads. So calls on different tables may
+ * run at the same time, questions on one table too, and checks of logs beside any other call.
  */
 
 /*
@@ -443,6 +453,24 @@ virtio_video_drained(uint32_t *table, size_t words, uint32_t stream,
 		     uint8_t *answers, size_t answers_len);
 
 /*
+ * How many answers are pending in all: one for each buffer that is Queued, and one for each drain
+ * that is pending. Reads one word of the table.
+ *
+ * A question changes nothing, and makes no test but for SHORT_TABLE. Of a table that is not valid
+ * the figure is what its words hold.
+ */
+struct virtio_video_pending
+virtio_video_pending_in_all(const uint32_t *table, size_t words);
+
+/*
+ * The same of one stream, 0 where it is not there. Of the eight places of streams one word each is
+ * read, in order, until the stream is found, and then its figure: 2 to 9 words in all. 8 words are
+ * read where it is not there.
+ */
+struct virtio_video_pending
+virtio_video_pending_of_stream(const uint32_t *table, size_t words, uint32_t stream);
+
+/*
  * Checks a log, such as another maker's device wrote: questions and answers, one a line in
  * hexadecimal, each answer behind its question (docs/LOG.md). The questions are run on a device
  * of its own, fresh at the start. A log is accepted where every line is a frame or an answer and
@@ -485,6 +513,7 @@ VIRTIO_VIDEO_SIZE(virtio_video_get_params_resp, 120);
 VIRTIO_VIDEO_SIZE(virtio_video_set_params, 120);
 VIRTIO_VIDEO_SIZE(virtio_video_outcome, 8);
 VIRTIO_VIDEO_SIZE(virtio_video_answer, 8);
+VIRTIO_VIDEO_SIZE(virtio_video_pending, 12);
 VIRTIO_VIDEO_SIZE(virtio_video_verdict, 16);
 #undef VIRTIO_VIDEO_SIZE
 #endif

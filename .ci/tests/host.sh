@@ -27,7 +27,7 @@ build_archives
 for name in "${archives[@]}"; do
     part "the proof of lib$name.a assumes no function's contract" assumes_nothing "$name"
 done
-part "libdecoder.a exports its five functions" exports decoder virtio_video_{check_log,command,drained,finish,fresh}
+part "libdecoder.a exports its seven functions" exports decoder virtio_video_{check_log,command,drained,finish,fresh,pending_in_all,pending_of_stream}
 part "libsound.a exports its one function" exports sound virtio_snd_control
 
 warnings=(-Wall -Wextra -Wpedantic -Werror)

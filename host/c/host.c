@@ -1,8 +1,9 @@
 /*
- * A small host: it makes a decoder, plays a guest and a back end to it, and prints what the
- * guest gets; it has logs checked; then it plays to a sound device. Each step's result and bytes,
- * and each verdict, are compared with those worked out by hand from the drafts and the scope; the
- * exit status is 1 where any of them differs.
+ * A small host: it makes a decoder, plays a guest and a back end to it, prints what the guest
+ * gets, and asks how many answers are pending; it has logs checked; then it plays to a sound
+ * device. Each step's result and bytes, each figure and each verdict are compared with those
+ * worked out by hand from the drafts and the scope; the exit status is 1 where any of them
+ * differs.
  */
 #include <stdio.h>
 #include <stdlib.h>
@@ -20,6 +21,14 @@
 
 /* The words of the spent numbers begin here: number n is bit n % 32 of word SPENT + n / 32 */
 #define SPENT	4096
+
+/*
+ * The figures of pending answers: the total, and for each place its mark, which is the number of
+ * its stream and 1 or 0 where it is vacant, and its figure
+ */
+#define TOTAL	4129
+#define MARKS	4130
+#define FIGURES	4138
 
 /* What stands in the room where the core has not written */
 #define UNTOUCHED 0xa5
@@ -211,6 +220,52 @@ static void expect_drain(uint32_t pending, uint32_t ticket)
 		wrong("the drain in the table");
 }
 
+/* Compares what is said of pending answers with what is expected. */
+static void expect_said(struct virtio_video_pending said, uint32_t refusal, uint32_t pending,
+			uint32_t words_read)
+{
+	if (said.refusal)
+		printf("    refused with %u\n", (unsigned)said.refusal);
+	else
+		printf("    pending: %u; words read: %u\n", (unsigned)said.pending,
+		       (unsigned)said.words_read);
+	if (said.refusal != refusal)
+		wrong("the result");
+	if (said.pending != pending)
+		wrong("the number of pending answers");
+	if (said.words_read != words_read)
+		wrong("the number of words read");
+}
+
+static void ask_in_all(uint32_t pending)
+{
+	printf("host: asks what is pending in all\n");
+	expect_said(virtio_video_pending_in_all(table, VIRTIO_VIDEO_TABLE_WORDS), 0, pending, 1);
+}
+
+static void ask_of(uint32_t stream, uint32_t pending, uint32_t words_read)
+{
+	printf("host: asks what is pending to stream %u\n", (unsigned)stream);
+	expect_said(virtio_video_pending_of_stream(table, VIRTIO_VIDEO_TABLE_WORDS, stream), 0,
+		    pending, words_read);
+}
+
+/* Of the stream that the session is about, which is alone and so in the first place */
+static void ask(uint32_t pending)
+{
+	ask_in_all(pending);
+	ask_of(STREAM, pending, 2);
+}
+
+/* Where there is no stream */
+static void ask_of_none(void)
+{
+	ask_in_all(0);
+	ask_of(STREAM, 0, 8);
+	/* no stream has this number, and a vacant place is not taken for it */
+	ask_of(UINT32_MAX, 0, 8);
+}
+
 /* The guest's commands */
 
 static struct virtio_video_cmd_hdr header(uint32_t type)
@@ -345,15 +400,18 @@ static void setting_up(void)
 	/* a number of its own queue */
 	import(10, "import output 5", OUTPUT, 5, "0a000000 08000000 00020000 07000000");
 	import(11, "import output 5 again", OUTPUT, 5, "0b000000 08000000 03030000 07000000");
+	ask(0);
 }
 
 static void decoding(void)
 {
 	queue(12, "queue input 5", INPUT, 5, 1000, "");
+	ask(1);
 	queue(13, "queue output 5", OUTPUT, 5, 0, "");
 	queue(14, "queue input 5 again", INPUT, 5, 1, "0e000000 08000000 00030000 07000000");
 	queue(15, "queue output 6, which is not there", OUTPUT, 6, 0,
 	      "0f000000 08000000 03030000 07000000");
+	ask(2);
 	/* an input keeps its own timestamp, an output gets the report's */
 	finish("input 5 is done", INPUT, 5, 0, 77, 0,
 	       "0c000000 18000000 02020000 07000000 e803000000000000 00000000 00000000");
@@ -363,14 +421,17 @@ static void decoding(void)
 	       VIRTIO_VIDEO_REFUSAL_BAD_FLAGS, "");
 	finish("output 5 is done, EOS without a drain", OUTPUT, 5, VIRTIO_VIDEO_BUFFER_FLAG_EOS,
 	       1000, VIRTIO_VIDEO_REFUSAL_BAD_FLAGS, "");
+	ask(1);
 	finish("output 5 is done", OUTPUT, 5, 0, 1000, 0,
 	       "0d000000 18000000 02020000 07000000 e803000000000000 00000000 00000000");
+	ask(0);
 }
 
 static void draining(void)
 {
 	queue(16, "queue input 6", INPUT, 6, UINT64_C(0x100000002), "");
 	plain(17, "drain", VIRTIO_VIDEO_CMD_STREAM_DRAIN, "");
+	ask(2);
 	plain(18, "drain again", VIRTIO_VIDEO_CMD_STREAM_DRAIN,
 	      "12000000 08000000 00030000 07000000");
 	queue(19, "queue input 5 while draining", INPUT, 5, 1,
@@ -389,12 +450,14 @@ static void draining(void)
 	drained("the stream is drained, without a last output",
 		VIRTIO_VIDEO_REFUSAL_UNEXPECTED_REPORT, "");
 	expect_drain(1, 17);
+	ask(2);
 	/* one report: it answers the buffer and then the drain */
 	finish("output 5 is done, the last one", OUTPUT, 5, VIRTIO_VIDEO_BUFFER_FLAG_EOS,
 	       UINT64_C(0x100000002), 0,
 	       "14000000 18000000 02020000 07000000 0200000001000000 02000000 00000000"
 	       "11000000 08000000 00020000 07000000");
 	expect_drain(0, 0);
+	ask(0);
 	queue(21, "queue output 5 again", OUTPUT, 5, 80, "");
 	finish("output 5 is done, EOS with the drain answered", OUTPUT, 5,
 	       VIRTIO_VIDEO_BUFFER_FLAG_EOS, 0, VIRTIO_VIDEO_REFUSAL_BAD_FLAGS, "");
@@ -408,16 +471,19 @@ static void stopping(void)
 	of_queue(24, "destroy all inputs", VIRTIO_VIDEO_CMD_RESOURCE_DESTROY_ALL, INPUT,
 		 "18000000 08000000 00030000 07000000");
 	plain(25, "drain", VIRTIO_VIDEO_CMD_STREAM_DRAIN, "");
+	ask(4);
 	/* the drain goes on */
 	of_queue(26, "clear the output queue", VIRTIO_VIDEO_CMD_QUEUE_CLEAR, OUTPUT,
 		 "15000000 18000000 02020000 07000000 5000000000000000 01000000 00000000"
 		 "1a000000 08000000 00020000 07000000");
+	ask(3);
 	/* 5 before 6, then the drain, then itself */
 	of_queue(27, "clear the input queue", VIRTIO_VIDEO_CMD_QUEUE_CLEAR, INPUT,
 		 "17000000 18000000 02020000 07000000 3200000000000000 01000000 00000000"
 		 "16000000 18000000 02020000 07000000 3c00000000000000 01000000 00000000"
 		 "19000000 08000000 00020000 07000000"
 		 "1b000000 08000000 00020000 07000000");
+	ask(0);
 	of_queue(28, "destroy all inputs", VIRTIO_VIDEO_CMD_RESOURCE_DESTROY_ALL, INPUT,
 		 "1c000000 08000000 00020000 07000000");
 	of_queue(29, "query a control", VIRTIO_VIDEO_CMD_QUERY_CONTROL,
@@ -426,10 +492,12 @@ static void stopping(void)
 	      "1e000000 08000000 00030000 07000000");
 	queue(31, "queue output 5", OUTPUT, 5, 90, "");
 	plain(32, "drain", VIRTIO_VIDEO_CMD_STREAM_DRAIN, "");
+	ask(2);
 	plain(33, "destroy the stream", VIRTIO_VIDEO_CMD_STREAM_DESTROY,
 	      "1f000000 18000000 02020000 07000000 5a00000000000000 01000000 00000000"
 	      "20000000 08000000 00020000 07000000"
 	      "21000000 08000000 00020000 07000000");
+	ask_of_none();
 	plain(34, "destroy the stream again", VIRTIO_VIDEO_CMD_STREAM_DESTROY,
 	      "22000000 08000000 02030000 07000000");
 }
@@ -450,12 +518,14 @@ static void spent_numbers(void)
 		      "26000000 08000000 00020000 ff030000");
 	create_stream(39, "create it again", VIRTIO_VIDEO_STREAM_NUMBERS - 1, "",
 		      "27000000 08000000 02030000 ff030000");
+	ask_of(VIRTIO_VIDEO_STREAM_NUMBERS - 1, 0, 2);
 	if (table[SPENT] != UINT32_C(0x80) || table[SPENT + 31] != UINT32_C(0x80000000))
 		wrong("the spent numbers in the table");
 
 	printf("host: makes the table fresh, as at a reset of the device\n");
 	if (virtio_video_fresh(table, VIRTIO_VIDEO_TABLE_WORDS) != VIRTIO_VIDEO_REFUSAL_NONE)
 		wrong("a table not made fresh");
+	ask_of(VIRTIO_VIDEO_STREAM_NUMBERS - 1, 0, 8);
 	create(40, "create stream 7", "lobby", "28000000 08000000 00020000 07000000");
 }
 
@@ -466,8 +536,10 @@ static void spent_numbers(void)
 static void other_drains(void)
 {
 	plain(41, "drain", VIRTIO_VIDEO_CMD_STREAM_DRAIN, "");
+	ask(1);
 	drained("the stream is drained", 0, "29000000 08000000 00020000 07000000");
 	expect_drain(0, 0);
+	ask(0);
 	drained("the stream is drained, told twice", VIRTIO_VIDEO_REFUSAL_UNEXPECTED_REPORT, "");
 	plain(42, "drain", VIRTIO_VIDEO_CMD_STREAM_DRAIN, "");
 	import(43, "import output 5", OUTPUT, 5, "2b000000 08000000 00020000 07000000");
@@ -509,6 +581,46 @@ static void refusals(void)
 				    sizeof(room)),
 	       VIRTIO_VIDEO_REFUSAL_INVALID_TABLE, "");
 	table[VIRTIO_VIDEO_TABLE_WORDS - 1] = 0;
+}
+
+/* What is pending to two streams, in a short table, and in one that every step refuses */
+static void asking(void)
+{
+	static uint32_t saved[VIRTIO_VIDEO_TABLE_WORDS];
+	struct virtio_video_cmd_hdr c = { VIRTIO_VIDEO_CMD_STREAM_DRAIN, 9 };
+
+	memcpy(saved, table, sizeof(table));
+	create_stream(52, "create stream 8", 8, "", "34000000 08000000 00020000 08000000");
+	create_stream(53, "create stream 9", 9, "", "35000000 08000000 00020000 09000000");
+	command(54, "drain stream 9", &c, sizeof(c), 0, "");
+	ask_in_all(1);
+	ask_of(8, 0, 2);
+	ask_of(9, 1, 3);
+	ask_of(STREAM, 0, 8);
+
+	printf("host: asks what is pending in a short table, and in none\n");
+	expect_said(virtio_video_pending_in_all(table, VIRTIO_VIDEO_TABLE_WORDS - 1),
+		    VIRTIO_VIDEO_REFUSAL_SHORT_TABLE, 0, 0);
+	expect_said(virtio_video_pending_of_stream(table, VIRTIO_VIDEO_TABLE_WORDS - 1, 9),
+		    VIRTIO_VIDEO_REFUSAL_SHORT_TABLE, 0, 0);
+	expect_said(virtio_video_pending_in_all(NULL, 0), VIRTIO_VIDEO_REFUSAL_SHORT_TABLE, 0, 0);
+	expect_said(virtio_video_pending_of_stream(NULL, 0, 9), VIRTIO_VIDEO_REFUSAL_SHORT_TABLE,
+		    0, 0);
+
+	printf("host: changes figures in the table\n");
+	table[TOTAL] = 70;
+	table[MARKS + 6] = 9 + 1;
+	table[MARKS + 7] = STREAM + 1;
+	table[FIGURES + 7] = 77;
+	command(55, "drain stream 9", &c, sizeof(c), VIRTIO_VIDEO_REFUSAL_INVALID_TABLE, "");
+	ask_in_all(70);
+	/* of two marks of a stream the first counts */
+	ask_of(9, 1, 3);
+	ask_of(STREAM, 77, 9);
+
+	printf("host: restores the table that it saved\n");
+	memcpy(table, saved, sizeof(table));
+	ask_of_none();
 }
 
 /* Logs with their answers */
@@ -660,6 +772,7 @@ int main(void)
 		wrong("a short table made fresh");
 	if (virtio_video_fresh(table, VIRTIO_VIDEO_TABLE_WORDS) != VIRTIO_VIDEO_REFUSAL_NONE)
 		wrong("a table not made fresh");
+	ask_of_none();
 
 	setting_up();
 	decoding();
@@ -668,6 +781,7 @@ int main(void)
 	spent_numbers();
 	other_drains();
 	refusals();
+	asking();
 	checking();
 	playing();
 

@@ -19,8 +19,20 @@
 #define ROOM	VIRTIO_VIDEO_ANSWER_ROOM
 #define NUMBERS	VIRTIO_VIDEO_STREAM_NUMBERS
 
+/* Places of streams, and the words of each: the first is 1 where it is live, then its number */
+#define PLACES	VIRTIO_VIDEO_MAX_STREAMS
+#define BLOCK	512
+
 /* The words of the spent numbers begin here: number n is bit n % 32 of word SPENT + n / 32 */
 #define SPENT	4096
+
+/*
+ * The figures of pending answers: the total, and for each place its mark, which is the number of
+ * its stream and 1 or 0 where it is vacant, and its figure
+ */
+#define TOTAL	4129
+#define MARKS	4130
+#define FIGURES	4138
 
 /* Longest pieces that are lent */
 #define MOST_WORDS	(WORDS + 64)
@@ -369,13 +381,14 @@ static void record_step(const struct step *s, struct virtio_video_outcome outcom
 
 /*
  * A creation that succeeds spends its number, which was not spent before. Nothing else changes
- * a word behind the streams.
+ * a word behind the streams but for the figures of pending answers.
  */
 static void check_spent(const struct step *s, const uint32_t *before, int accepted)
 {
 	uint32_t behind[WORDS - SPENT], type, number;
 
 	memcpy(behind, before + SPENT, sizeof(behind));
+	memcpy(behind + TOTAL - SPENT, table + TOTAL, (1 + 2 * PLACES) * 4);
 	if (s->kind == COMMAND && accepted) {
 		memcpy(&type, s->frame, 4);
 		memcpy(&number, s->frame + 4, 4);
@@ -388,6 +401,111 @@ static void check_spent(const struct step *s, const uint32_t *before, int accept
 	CHECK(memcmp(table + SPENT, behind, sizeof(behind)) == 0);
 }
 
+/* A short table is refused, and no other. */
+static void check_said(struct virtio_video_pending said)
+{
+	if (words >= WORDS)
+		CHECK(said.refusal == VIRTIO_VIDEO_REFUSAL_NONE);
+	else
+		CHECK(said.refusal == VIRTIO_VIDEO_REFUSAL_SHORT_TABLE && said.pending == 0 &&
+		      said.words_read == 0);
+}
+
+/* What is pending in all: whatever the words are, what the total's word holds */
+static uint32_t pending_in_all(void)
+{
+	struct virtio_video_pending said = virtio_video_pending_in_all(table, words);
+
+	check_said(said);
+	if (words >= WORDS)
+		CHECK(said.pending == table[TOTAL] && said.words_read == 1);
+	return said.pending;
+}
+
+/* What is pending to a stream: what the figure behind its first mark holds */
+static uint32_t pending_of(uint32_t stream)
+{
+	struct virtio_video_pending said = virtio_video_pending_of_stream(table, words, stream);
+	uint32_t place = 0;
+
+	check_said(said);
+	if (words < WORDS)
+		return 0;
+	while (place < PLACES && (!table[MARKS + place] || table[MARKS + place] - 1 != stream))
+		place++;
+	if (place < PLACES)
+		CHECK(said.pending == table[FIGURES + place] && said.words_read == place + 2);
+	else
+		CHECK(said.pending == 0 && said.words_read == PLACES);
+	return said.pending;
+}
+
+/* Asks for a number that no stream has, and for those that the marks stand for. */
+static void ask_around(void)
+{
+	uint32_t place;
+
+	pending_of(UINT32_MAX);
+	for (place = 0; place < PLACES && words >= WORDS; place++)
+		pending_of(table[MARKS + place] - 1);
+}
+
+/* What is pending to the live streams of a valid table, whose marks are right */
+static uint32_t pending_of_each(void)
+{
+	uint32_t place, live, number, sum = 0;
+
+	for (place = 0; place < PLACES; place++) {
+		live = table[place * BLOCK];
+		number = table[place * BLOCK + 1];
+		CHECK(table[MARKS + place] == (live ? number + 1 : 0));
+		if (live)
+			sum += pending_of(number);
+	}
+	return sum;
+}
+
+/* The stream of a step, 0 for a command without a whole header */
+static uint32_t stream_of(const struct step *s)
+{
+	uint32_t stream = s->stream;
+
+	if (s->kind == COMMAND && s->frame_len >= sizeof(struct virtio_video_cmd_hdr))
+		memcpy(&stream, s->frame + 4, 4);
+	return stream;
+}
+
+/*
+ * What a step that is not refused makes of a number of pending answers, by the answers that it
+ * wrote: with none it is a queueing or a drain that is accepted; else each was pending but for a
+ * command's own.
+ */
+static uint32_t pending_after(const struct step *s, uint32_t pending, unsigned count)
+{
+	return count ? pending + (s->kind == COMMAND) - count : pending + 1;
+}
+
+/* Which refusals may come, and that a step leaves a valid table valid and no other */
+static void check_refusal(const struct step *s, uint32_t refusal, int was_valid)
+{
+	CHECK((refusal == VIRTIO_VIDEO_REFUSAL_SHORT_TABLE) == (words < WORDS));
+	if (words >= WORDS) {
+		CHECK((refusal == VIRTIO_VIDEO_REFUSAL_SHORT_ROOM) == (room_len < ROOM));
+		if (room_len >= ROOM)
+			CHECK((refusal == VIRTIO_VIDEO_REFUSAL_INVALID_TABLE) == !was_valid);
+		CHECK(valid() == was_valid);
+	}
+	if (refusal > VIRTIO_VIDEO_REFUSAL_SHORT_ROOM) {
+		if (s->kind == COMMAND)
+			CHECK(refusal == VIRTIO_VIDEO_REFUSAL_SHORT_COMMAND);
+		else
+			CHECK(refusal == VIRTIO_VIDEO_REFUSAL_UNEXPECTED_REPORT ||
+			      (s->kind == FINISH && refusal == VIRTIO_VIDEO_REFUSAL_BAD_FLAGS));
+	}
+	if (s->kind == COMMAND && refusal == VIRTIO_VIDEO_REFUSAL_NONE)
+		CHECK(s->frame_len >= sizeof(struct virtio_video_cmd_hdr));
+}
+
 static void step(const struct step *s)
 {
 	static uint32_t table_before[MOST_WORDS];
@@ -395,33 +513,21 @@ static void step(const struct step *s)
 	struct virtio_video_outcome outcome;
 	int was_valid, error = 0;
 	unsigned count = 0;
-	uint32_t first = 0, what, came;
+	uint32_t first = 0, what, came, in_all, of_stream;
 
 	was_valid = words >= WORDS && valid();
 	memcpy(table_before, table, words * 4);
 	memcpy(room_before, room, room_len);
+	in_all = pending_in_all();
+	of_stream = pending_of(stream_of(s));
+	ask_around();
+	CHECK(memcmp(table, table_before, words * 4) == 0);
 
 	outcome = call(s);
 
 	untouched_before((const uint8_t *)table);
 	untouched_before(room);
-	CHECK((outcome.refusal == VIRTIO_VIDEO_REFUSAL_SHORT_TABLE) == (words < WORDS));
-	if (words >= WORDS) {
-		CHECK((outcome.refusal == VIRTIO_VIDEO_REFUSAL_SHORT_ROOM) == (room_len < ROOM));
-		if (room_len >= ROOM)
-			CHECK((outcome.refusal == VIRTIO_VIDEO_REFUSAL_INVALID_TABLE) == !was_valid);
-		CHECK(valid() == was_valid);
-	}
-	if (outcome.refusal > VIRTIO_VIDEO_REFUSAL_SHORT_ROOM) {
-		if (s->kind == COMMAND)
-			CHECK(outcome.refusal == VIRTIO_VIDEO_REFUSAL_SHORT_COMMAND);
-		else
-			CHECK(outcome.refusal == VIRTIO_VIDEO_REFUSAL_UNEXPECTED_REPORT ||
-			      (s->kind == FINISH &&
-			       outcome.refusal == VIRTIO_VIDEO_REFUSAL_BAD_FLAGS));
-	}
-	if (s->kind == COMMAND && outcome.refusal == VIRTIO_VIDEO_REFUSAL_NONE)
-		CHECK(s->frame_len >= sizeof(struct virtio_video_cmd_hdr));
+	check_refusal(s, outcome.refusal, was_valid);
 	if (outcome.refusal == VIRTIO_VIDEO_REFUSAL_NONE) {
 		CHECK(outcome.written <= ROOM);
 		count = answers(outcome.written, &error);
@@ -432,6 +538,9 @@ static void step(const struct step *s)
 			CHECK(count == 1);
 		if (count)
 			memcpy(&first, room + 8, 4);
+		CHECK(pending_in_all() == pending_after(s, in_all, count));
+		CHECK(pending_in_all() == pending_of_each());
+		CHECK(pending_of(stream_of(s)) == pending_after(s, of_stream, count));
 	} else {
 		CHECK(outcome.written == 0);
 	}
@@ -674,6 +783,20 @@ static void lend_room(void)
 	memset(room, byte(), room_len);
 }
 
+/*
+ * Changes two words: any, or of the figures of pending answers. There the first becomes the same
+ * as another one, so that a stream may be marked twice.
+ */
+static void change_words(int figures)
+{
+	size_t first = figures && words >= WORDS ? TOTAL : 0;
+	size_t count = first ? 1 + 2 * PLACES : words;
+	size_t at = first + half() % count;
+
+	table[at] = first ? table[first + byte() % count] : byte();
+	table[first + half() % count] ^= 1u << (byte() & 31);
+}
+
 /* An input that fills more of the table than others is worth keeping. */
 static void note_fullness(void)
 {
@@ -722,8 +845,7 @@ int LLVMFuzzerTestOneInput(const uint8_t *data, size_t size)
 	check_record();
 	note_fullness();
 	if (mode & 2 && words) {
-		table[half() % words] = byte();
-		table[half() % words] ^= 1u << (byte() & 31);
+		change_words(mode & 4);
 		lend_room();
 		one_step();
 	}

@@ -60,7 +60,7 @@ pub fn add_stream(t: &mut [u32], k: usize, number: u32, format: u32)
     table::new_stream(&mut t[at..at + PLACE_WORDS], number, format);
 }
 
-// After a change in the block of place k its mark and its figure, and the figure of all, are those of the blocks again.
+// After a change in the block of place k its mark, its figure and the total are those of the blocks again.
 pub fn settle(t: &mut [u32], k: usize)
     requires { ⌜ (length (now t) ≡ tableWords) × (k < streamPlaces) ⌝ }
     ensures { λ _. ⌜ ((d : Device) (p : Place) → Unsettled (now (t .entry)) d k p → now (t .exit) ≡ encode (withPlaces (set (d .places) k p) d)) ⌝ }

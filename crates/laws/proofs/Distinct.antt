@@ -1,4 +1,4 @@
--- Laws of the numbers in a list of elements: those from a place on, and those that are read out of words.
+-- Laws of the numbers in a list of elements: those from a place on, those that are read out of words, and elements counted by their numbers.
 use mathlib.Core.Path.{_≡_, refl, sym, ap, ap₂, _∙_, subst}
 use mathlib.Core.Bool.{Bool, true, false, not}
 use mathlib.Core.Option.{Option, none, some}

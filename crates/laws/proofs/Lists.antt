@@ -1,4 +1,5 @@
--- Laws of lists picked by a test, of any, all and how many of their elements, and of sorting by a key: by cases on the test, with `decide`.
+-- Laws of lists picked by a test, of any, all and how many of their elements, of elements changed and set, of the numbers below one, and of sorting by a key: by cases on
+-- the test, with `decide`.
 use mathlib.Core.Path.{_≡_, refl, sym, ap, ap₂, _∙_, subst}
 use mathlib.Core.Bool.{Bool, true, false, cond, not, _&&_, _||_, and-comm, and-assoc, true≢false, false≢true}
 use mathlib.Core.Option.{Option, none, some}

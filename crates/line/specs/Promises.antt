@@ -1,4 +1,4 @@
--- What holds of lines and of logs. Each statement is proved in proofs/, `ShowsEvents` and the example over every layout that meets the two laws;
+-- What holds of lines and of logs. Each statement is proved in proofs/, `ShowsEvents` and the example over every layout that meets the laws;
 -- crates/replay closes them over this device's.
 use Prim.Native.Nat.{ℕ, _≤_, _<_}
 use mathlib.Core.Path.{_≡_}
@@ -94,6 +94,6 @@ eventsOutput log =
     let lines = map lineOf (linesIn log) in
     linesShown lines (eventsOf fresh (stepsIn lines))
 
--- a log writes what the events of its steps show, the same over every layout that meets the two laws
+-- a log writes what the events of its steps show, the same over every layout that meets the laws
 abbrev pub ShowsEvents : Layout → Type 0
 ShowsEvents L = (log : List ℕ) → logOutput L log ≡ eventsOutput log

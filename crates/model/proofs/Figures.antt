@@ -8,21 +8,20 @@ use lib.Dec.{eqb}
 use native.Mathlib.Omega.{arith}
 use borrow.Author.Tests.{eqb-true, not-true}
 use Rattle.laws.specs.Lists.{keep, numbersIn, standsIn, howMany, total}
-use Rattle.laws.proofs.Lists.{decide, eqb-same, eqb-sym, none-is, howMany-length, keep-ext}
+use Rattle.laws.proofs.Lists.{decide, eqb-same, none-is, howMany-length}
 use Rattle.laws.proofs.Distinct.{counted-once}
-use Rattle.model.specs.Device.{Stream, Place, vacant, occupied, Device, placeNumber, recordOf, pendingOf, pendingAt, pendingInAll}
+use Rattle.model.specs.Device.{Place, vacant, occupied, Device, fresh, placeNumber, recordOf, pendingOf, pendingAt, pendingAmong}
 use Rattle.model.specs.Steps.{Step, eventsOf, final}
-use Rattle.model.specs.Device as device
 use Rattle.model.specs.Ledger.{Pending, Ledger, ledgerOf}
 use Rattle.model.specs.WellFormed.{distinctPlaces, goodSteps}
 use Rattle.model.proofs.Places.{no-record, alone-head, alone-tail}
-use Rattle.model.proofs.WellFormed.{GoodPlaces, well-places}
+use Rattle.model.proofs.WellFormed.{well-places}
 use Rattle.model.proofs.LedgerView.{isTo}
 use Rattle.model.proofs.Condition3.{Agree, agree-fresh, agree-end, agree-figure}
 
 -- by the numbers of the places, each of which has one record
 by-places : (f : ℕ → ℕ) (ps : List Place) → distinctPlaces ps ≡ true → ((n : ℕ) → standsIn n (numbersIn placeNumber ps) ≡ true → pendingOf (recordOf n ps) ≡ f n)
-    → pendingInAll ps ≡ total (map f (numbersIn placeNumber ps))
+    → pendingAmong ps ≡ total (map f (numbersIn placeNumber ps))
 by-places f [] h each = refl
 by-places f (vacant ∷ ps) h each = omega (arith, by-places f ps h each)
 by-places f (occupied m b ∷ ps) h each = ap₂ _+_ here (by-places f ps (alone-tail m b ps h) others)
@@ -36,7 +35,7 @@ by-places f (occupied m b ∷ ps) h each = ap₂ _+_ here (by-places f ps (alone
         (λ q. absurd (true≢false (sym e ∙ subst (λ (k : ℕ). standsIn k (numbersIn placeNumber ps) ≡ false) (eqb-true m n q) (not-true _ (no-record m ps ∙ alone-head m b ps h)))))
         (λ q. simp q at (each n (simp q e)))
 
-total-agrees : (d : Device) (l : Ledger) → Agree d l → pendingInAll (d .places) ≡ length l
+total-agrees : (d : Device) (l : Ledger) → Agree d l → pendingAmong (d .places) ≡ length l
 total-agrees d l g =
     let numbers = numbersIn placeNumber (d .places) in
     let apart : distinctPlaces (d .places) ≡ true = well-places d (g .well) .apart in
@@ -47,5 +46,5 @@ total-agrees d l g =
     (λ n e. sym (counted n) ∙ ap pendingOf (none-is (recordOf n (d .places)) (sym (no-record n (d .places)) ∙ ap not e)))
 
 -- after a list of steps from a fresh start
-pub total-of-ledger : (ss : List Step) → goodSteps ss ≡ true → pendingInAll (final device.fresh ss .places) ≡ length (ledgerOf (eventsOf device.fresh ss))
-total-of-ledger ss m = total-agrees (final device.fresh ss) (ledgerOf (eventsOf device.fresh ss)) (agree-end 0 device.fresh [] ss agree-fresh m)
+pub total-of-ledger : (ss : List Step) → goodSteps ss ≡ true → pendingAmong (final fresh ss .places) ≡ length (ledgerOf (eventsOf fresh ss))
+total-of-ledger ss m = total-agrees (final fresh ss) (ledgerOf (eventsOf fresh ss)) (agree-end 0 fresh [] ss agree-fresh m)

@@ -7,10 +7,10 @@ use mathlib.Core.List.{List}
 use lib.ListN.{length}
 use Rattle.laws.proofs.InOrder.{tests-all}
 use Rattle.model.specs.Numbers.{queueSlots}
-use Rattle.model.specs.Device.{QueueType, input, output, State, queued, dequeued, Slot, Queue, Stream, newStream, queueOf, withQueue, withSlots, withDrain, isInput}
+use Rattle.model.specs.Device.{QueueType, input, output, dequeued, Slot, Queue, Stream, newStream, queueOf, withQueue, withSlots, withDrain, isInput}
 use Rattle.model.specs.Frames.{QueueCommand, createResource, queueResource, destroyAll, clear, getParameters, setParameters, codedFormat}
 use Rattle.model.specs.Replies.{Reply, Request, fail}
-use Rattle.model.specs.Commands.{Surroundings, withoutEnded, onCommand, onCreate, onQueueOf, onCreateResource, onQueue, onDestroyAll, onClear, onGet, onSet, onLive, onDestroy, onDrain}
+use Rattle.model.specs.Commands.{Surroundings, withoutEnded, onQueueOf, onCreateResource, onQueue, onDestroyAll, onClear, onGet, onSet, onDestroy, onDrain}
 use Rattle.model.specs.Reports.{hasEos}
 use Rattle.model.specs.Steps.{Act, command, finish, drained, serve}
 use Rattle.model.proofs.Slots.{length-setState, length-stop, length-free, length-add}

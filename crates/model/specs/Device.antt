@@ -227,8 +227,8 @@ pendingAt vacant = 0
 pendingAt (occupied n b) = pendingTo b
 
 -- in all
-abbrev pub pendingInAll : List Place → ℕ
-pendingInAll ps = total (map pendingAt ps)
+abbrev pub pendingAmong : List Place → ℕ
+pendingAmong ps = total (map pendingAt ps)
 
 -- Spent numbers
 

@@ -1,34 +1,37 @@
 -- Laws of the figures: how large they can be, what the questions give on the words of a device, and that they look at no other words than those they read.
-use Prim.Native.Nat.{ℕ, zero, suc, _+_, _-_, _*_, _%_, _^_, _<_, _≤_}
-use native.Mathlib.Nat.{not-suc-le-zero, le-of-suc-le-suc}
+use Prim.Native.Nat.{ℕ, suc, _+_, _-_, _*_, _%_, _^_, _<_, _≤_}
 use native.Mathlib.Omega.{arith}
-use mathlib.Core.Path.{_≡_, refl, sym, ap, ap₂, _∙_, subst}
+use mathlib.Core.Path.{_≡_, refl, sym, ap, _∙_}
 use mathlib.Core.Bool.{Bool, true, false}
 use mathlib.Core.Option.{Option, none, some}
 use mathlib.Core.List.{List, [], _∷_, _++_, map, append-assoc}
-use lib.ListN.{length, getD, set, take, drop, length-append, length-set, length-map, length-drop, List·getD-append, List·getD-map, List·getD-eq-default}
+use lib.ListN.{length, getD, set, take, drop, length-append, length-set, length-map, length-drop, List·getD-append, List·getD-map}
 use lib.Seq.{getD-drop, getD-at, drop-at, take-all, set-append-left, length-take-le, getD-take, ext-getD}
-use lib.Dec.{eqb, ltb}
-use borrow.Author.Tests.{lt-ltb, le-ltb, eq-eqb, ne-eqb, eqb-true, eqb-false, ltb-true, ltb-false}
-use Rattle.laws.specs.Lists.{allOf, Each, toList, position, total, numbersBelow}
+use lib.Dec.{eqb}
+use borrow.Author.Tests.{lt-ltb, le-ltb, eq-eqb, ne-eqb, eqb-true, eqb-false}
+use Rattle.laws.specs.Lists.{allOf, toList, position, total, numbersBelow}
 use Rattle.laws.specs.Parts.{part, zeros}
-use Rattle.laws.proofs.Tests.{never, and-left, and-right}
+use Rattle.laws.proofs.Tests.{and-left, and-right}
 use Rattle.laws.proofs.Lists.{decide, map-set, set-append-add, below-length, each-below, each-behind}
-use Rattle.laws.proofs.Parts.{zero-length, part-mid}
+use Rattle.laws.proofs.Parts.{part-mid}
 use Rattle.laws.proofs.Positions.{position-ext, position-map, position-below, position-agrees}
-use Rattle.model.specs.Numbers.{tableWords, streamPlaces, queueSlots}
-use Rattle.model.specs.Device.{input, output, Stream, Place, vacant, occupied, Device, queuedIn, recordOf, pendingOf, pendingAt, pendingInAll, isSpent}
+use Rattle.model.specs.Numbers.{tableWords, streamPlaces, streamNumbers}
+use Rattle.model.specs.Device.{input, output, Place, vacant, occupied, Device, recordOf, pendingOf, pendingAt, pendingAmong}
 use Rattle.model.proofs.Slots.{queued-most}
-use Rattle.table.specs.declared.figures.PendingFigure.{PendingFigure}
-use Rattle.table.specs.Spent.{spentWords}
-use Rattle.table.specs.Figures.{totalAt, marksAt, figuresAt, placeMark, figureWords, markedPlace, placesVisited, wordsRead, figureFound, notRead, figureRead, askedInAll, askedOfStream}
-use Rattle.table.specs.Blocks.{blocks, blocksSize, gapSize, unusedSize, behind, encode}
+use Rattle.model.specs.WellFormed.{spentIn}
+use Rattle.model.proofs.Spent.{spent-below}
+use Rattle.table.specs.Figures.{totalAt, marksAt, placeFiguresAt, placeMark, figureWords, markedPlace, wordsRead, AgreeOn, figureFound, notRead, figureRead, askedInAll, askedOfStream}
+use Rattle.table.specs.Blocks.{unusedSize, encode}
 use Rattle.table.specs.Search.{placeAt, isStream, findStream, hasAllSlots}
-use Rattle.table.proofs.Bits.{spent-length}
-use Rattle.table.proofs.Records.{sized-queue, blocks-length, used-length}
+use Rattle.table.proofs.Records.{sized-queue, used-length, front-words, front-length, figures-seam}
 use Rattle.table.proofs.Bridge.{stream-found, stream-missing}
 
 -- How large they can be
+
+-- the number of a live place is below 1,024
+pub mark-below : (s : List Bool) → length s ≡ streamNumbers → (p : Place) → spentIn s p ≡ true → placeMark p ≤ streamNumbers
+mark-below s long vacant h = omega arith
+mark-below s long (occupied n b) h = omega (arith, spent-below n s h)
 
 -- sixteen inputs, sixteen outputs and a drain
 pub pending-most : (p : Place) → hasAllSlots p ≡ true → pendingAt p ≤ 33
@@ -47,7 +50,7 @@ pending-most (occupied n b) h =
     one none = omega arith
     one (some t) = omega arith
 
-pub all-most : (ps : List Place) → allOf hasAllSlots ps ≡ true → pendingInAll ps ≤ 33 * length ps
+pub all-most : (ps : List Place) → allOf hasAllSlots ps ≡ true → pendingAmong ps ≤ 33 * length ps
 all-most [] h = omega arith
 all-most (p ∷ ps) h = omega (arith, pending-most p (and-left (hasAllSlots p) _ h), all-most ps (and-right (hasAllSlots p) _ h))
 
@@ -61,10 +64,10 @@ module _ (ps : List Place) (k : ℕ) (p : Place) (eight : length ps ≡ streamPl
   new-figures = map pendingAt (set ps k p)
 
   -- its mark and its figure are set
-  pub place-set : (w : List ℕ) → w ≡ figureWords ps → set (set w (1 + k) (placeMark p)) (9 + k) (pendingAt p) ≡ pendingInAll ps ∷ (new-marks ++ new-figures)
+  pub place-set : (w : List ℕ) → w ≡ figureWords ps → set (set w (1 + k) (placeMark p)) (9 + k) (pendingAt p) ≡ pendingAmong ps ∷ (new-marks ++ new-figures)
   unfolding figureWords
   place-set w e =
-      let all = pendingInAll ps in
+      let all = pendingAmong ps in
       let first : 1 + k ≡ suc k = omega arith in
       let second : 9 + k ≡ suc (length new-marks + k) = omega (arith, length-map (set ps k p) placeMark, length-set ps k p) in
       ap (λ (x : List ℕ). set (set x (1 + k) (placeMark p)) (9 + k) (pendingAt p)) e
@@ -82,7 +85,7 @@ module _ (ps : List Place) (k : ℕ) (p : Place) (eight : length ps ≡ streamPl
       ∙ take-all 8 new-figures (omega (arith, length-map (set ps k p) pendingAt, length-set ps k p))
 
 -- the sum of the figures is that of all: no word is too small for it
-pub sum-is : (w : List ℕ) (ps : List Place) → allOf hasAllSlots ps ≡ true → length ps ≡ streamPlaces → w ≡ map pendingAt ps → total w % 2 ^ 32 ≡ pendingInAll ps
+pub sum-is : (w : List ℕ) (ps : List Place) → allOf hasAllSlots ps ≡ true → length ps ≡ streamPlaces → w ≡ map pendingAt ps → total w % 2 ^ 32 ≡ pendingAmong ps
 sum-is w ps sized eight e = ap (λ (x : List ℕ). total x % 2 ^ 32) e ∙ omega (arith, all-most ps sized)
 
 -- Questions on the words of a device
@@ -112,19 +115,14 @@ pub asked-found : (t : List ℕ) (n : ℕ) (o : Option ℕ) → markedPlace t n 
 unfolding askedOfStream
 asked-found t n o e h = ap (λ (x : Option ℕ). figureRead t (figureFound t x) (wordsRead x)) e ∙ asked-long t (figureFound t o) (wordsRead o) h
 
--- it is one of the eight
-pub marked-below : (t : List ℕ) (n k : ℕ) → tableWords ≤ length t → markedPlace t n ≡ some k → k < streamPlaces
-unfolding markedPlace
-marked-below t n k h e = position-below (λ w. eqb w (suc n)) 0 (part marksAt streamPlaces t) streamPlaces (length-take-le streamPlaces (drop marksAt t) (omega (arith, length-drop marksAt t))) k e
-
 -- a mark for each place up to the one that was found, and its figure
 pub reads-found : (k : ℕ) → length (wordsRead (some k)) ≡ k + 2
 reads-found k =
     let marks = map (λ i. marksAt + i) (numbersBelow (suc k)) in
-    omega (arith, length-append marks ((figuresAt + k) ∷ []), length-map (numbersBelow (suc k)) (λ i. marksAt + i), below-length (suc k))
+    omega (arith, length-append marks ((placeFiguresAt + k) ∷ []), length-map (numbersBelow (suc k)) (λ i. marksAt + i), below-length (suc k))
 
-pub asked-at : (t : List ℕ) (n k : ℕ) → markedPlace t n ≡ some k → tableWords ≤ length t → askedOfStream t n ≡ record { refusal = 0; pending = getD t (figuresAt + k) 0; reads = k + 2 }
-asked-at t n k e h = asked-found t n (some k) e h ∙ (λ i. record { refusal = 0; pending = getD t (figuresAt + k) 0; reads = reads-found k i })
+pub asked-at : (t : List ℕ) (n k : ℕ) → markedPlace t n ≡ some k → tableWords ≤ length t → askedOfStream t n ≡ record { refusal = 0; pending = getD t (placeFiguresAt + k) 0; reads = k + 2 }
+asked-at t n k e h = asked-found t n (some k) e h ∙ (λ i. record { refusal = 0; pending = getD t (placeFiguresAt + k) 0; reads = reads-found k i })
 
 -- 0 is nobody's mark
 pub no-mark : (w n : ℕ) → w ≡ 0 → eqb w (suc n) ≡ false
@@ -147,6 +145,11 @@ module _ (t : List ℕ) where
   pub marks-size : tableWords ≤ length t → length (part marksAt streamPlaces t) ≡ streamPlaces
   marks-size h = length-take-le streamPlaces (drop marksAt t) (omega (arith, length-drop marksAt t))
 
+  -- the place of a number is one of the eight
+  pub marked-below : (n k : ℕ) → tableWords ≤ length t → markedPlace t n ≡ some k → k < streamPlaces
+  unfolding markedPlace
+  marked-below n k h e = position-below (λ w. eqb w (suc n)) 0 (part marksAt streamPlaces t) streamPlaces (marks-size h) k e
+
   pub mark-at : (k : ℕ) → k < streamPlaces → getD (part marksAt streamPlaces t) k 0 ≡ getD t (marksAt + k) 0
   mark-at k h = getD-take streamPlaces (drop marksAt t) k 0 h ∙ getD-drop marksAt t k 0
 
@@ -161,35 +164,27 @@ module _ (d : Device) (rest : List ℕ) (sized : allOf hasAllSlots (d .places) �
   figures = map pendingAt (d .places)
 
   abbrev before-total : List ℕ
-  before-total = blocks (d .places) ++ (spentWords (d .spent) ++ zeros gapSize)
+  before-total = front-words (d .places) (d .spent)
 
   abbrev behind-figures : List ℕ
   behind-figures = zeros unusedSize ++ rest
 
   total-length : length before-total ≡ totalAt
-  total-length =
-      omega (
-        arith,
-        length-append (blocks (d .places)) (spentWords (d .spent) ++ zeros gapSize),
-        length-append (spentWords (d .spent)) (zeros gapSize),
-        blocks-length (d .places) sized,
-        spent-length (d .spent),
-        zero-length gapSize,
-      )
+  total-length = front-length (d .places) (d .spent) sized eight
 
   -- the total, the marks and the figures, one after the other
-  in-parts : words ≡ before-total ++ (pendingInAll (d .places) ∷ (marks ++ (figures ++ behind-figures)))
-  unfolding encode behind figureWords
-  in-parts = simp append-assoc
+  in-parts : words ≡ before-total ++ (pendingAmong (d .places) ∷ (marks ++ (figures ++ behind-figures)))
+  unfolding encode figureWords
+  in-parts = ap (λ (w : List ℕ). w ++ rest) (figures-seam (d .places) (d .places) (d .spent)) ∙ simp append-assoc
 
   abbrev with-total : List ℕ
-  with-total = before-total ++ pendingInAll (d .places) ∷ []
+  with-total = before-total ++ pendingAmong (d .places) ∷ []
 
   from-marks : words ≡ with-total ++ (marks ++ (figures ++ behind-figures))
-  from-marks = in-parts ∙ sym (append-assoc before-total (pendingInAll (d .places) ∷ []) (marks ++ (figures ++ behind-figures)))
+  from-marks = in-parts ∙ sym (append-assoc before-total (pendingAmong (d .places) ∷ []) (marks ++ (figures ++ behind-figures)))
 
   with-length : length with-total ≡ marksAt
-  with-length = omega (arith, length-append before-total (pendingInAll (d .places) ∷ []), total-length)
+  with-length = omega (arith, length-append before-total (pendingAmong (d .places) ∷ []), total-length)
 
   marks-length : length marks ≡ streamPlaces
   marks-length = length-map (d .places) placeMark ∙ eight
@@ -197,20 +192,20 @@ module _ (d : Device) (rest : List ℕ) (sized : allOf hasAllSlots (d .places) �
   marks-there : part marksAt streamPlaces words ≡ marks
   marks-there = ap (part marksAt streamPlaces) from-marks ∙ part-mid with-total marks (figures ++ behind-figures) marksAt streamPlaces with-length marks-length
 
-  figures-there : drop figuresAt words ≡ figures ++ behind-figures
+  figures-there : drop placeFiguresAt words ≡ figures ++ behind-figures
   figures-there =
-      ap (drop figuresAt) (from-marks ∙ sym (append-assoc with-total marks (figures ++ behind-figures)))
-      ∙ drop-at (with-total ++ marks) (figures ++ behind-figures) figuresAt (omega (arith, length-append with-total marks, with-length, marks-length))
+      ap (drop placeFiguresAt) (from-marks ∙ sym (append-assoc with-total marks (figures ++ behind-figures)))
+      ∙ drop-at (with-total ++ marks) (figures ++ behind-figures) placeFiguresAt (omega (arith, length-append with-total marks, with-length, marks-length))
 
-  figure-there : (k : ℕ) → k < streamPlaces → getD words (figuresAt + k) 0 ≡ pendingAt (placeAt k (d .places))
+  figure-there : (k : ℕ) → k < streamPlaces → getD words (placeFiguresAt + k) 0 ≡ pendingAt (placeAt k (d .places))
   figure-there k h =
-      sym (getD-drop figuresAt words k 0)
+      sym (getD-drop placeFiguresAt words k 0)
       ∙ ap (λ (w : List ℕ). getD w k 0) figures-there
       ∙ List·getD-append figures behind-figures 0 k (omega (arith, length-map (d .places) pendingAt))
       ∙ List·getD-map pendingAt (d .places) k vacant
 
-  pub total-there : getD words totalAt 0 ≡ pendingInAll (d .places)
-  total-there = ap (λ (w : List ℕ). getD w totalAt 0) in-parts ∙ getD-at before-total (pendingInAll (d .places)) (marks ++ (figures ++ behind-figures)) 0 totalAt total-length
+  pub total-there : getD words totalAt 0 ≡ pendingAmong (d .places)
+  total-there = ap (λ (w : List ℕ). getD w totalAt 0) in-parts ∙ getD-at before-total (pendingAmong (d .places)) (marks ++ (figures ++ behind-figures)) 0 totalAt total-length
 
   -- the place of a number by the marks is that of its stream
   marked : (n : ℕ) → markedPlace words n ≡ findStream n (d .places)
@@ -241,7 +236,7 @@ module _ (t u : List ℕ) (long : tableWords ≤ length t) (long′ : tableWords
   abbrev agreeAt : ℕ → Type 0
   agreeAt i = getD t i 0 ≡ getD u i 0
 
-  marks-agree : (m : ℕ) (rest : List ℕ) → m ≤ streamPlaces → Each agreeAt (map (λ i. marksAt + i) (numbersBelow m) ++ rest) → (i : ℕ) → i < m
+  marks-agree : (m : ℕ) (rest : List ℕ) → m ≤ streamPlaces → AgreeOn t u (map (λ i. marksAt + i) (numbersBelow m) ++ rest) → (i : ℕ) → i < m
       → getD (part marksAt streamPlaces t) i 0 ≡ getD (part marksAt streamPlaces u) i 0
   marks-agree m rest below e i h =
       mark-at t i (omega arith) ∙ each-below agreeAt (λ k. marksAt + k) m rest e i h ∙ sym (mark-at u i (omega arith))
@@ -249,7 +244,7 @@ module _ (t u : List ℕ) (long : tableWords ≤ length t) (long′ : tableWords
   as-many : length (part marksAt streamPlaces t) ≡ length (part marksAt streamPlaces u)
   as-many = marks-size t long ∙ sym (marks-size u long′)
 
-  same-place : (n : ℕ) (o : Option ℕ) → markedPlace t n ≡ o → Each agreeAt (wordsRead o) → markedPlace u n ≡ o
+  same-place : (n : ℕ) (o : Option ℕ) → markedPlace t n ≡ o → AgreeOn t u (wordsRead o) → markedPlace u n ≡ o
   unfolding markedPlace
   same-place n none e agree =
       ap (position (λ w. eqb w (suc n)))
@@ -258,13 +253,13 @@ module _ (t u : List ℕ) (long : tableWords ≤ length t) (long′ : tableWords
   same-place n (some k) e agree =
       let below = marked-below t n k long e in
       position-agrees (λ w. eqb w (suc n)) 0 (part marksAt streamPlaces t) (part marksAt streamPlaces u) k as-many e
-      (λ i h. marks-agree (suc k) ((figuresAt + k) ∷ []) (omega arith) agree i (omega arith))
+      (λ i h. marks-agree (suc k) ((placeFiguresAt + k) ∷ []) (omega arith) agree i (omega arith))
 
-  same-figure : (o : Option ℕ) → Each agreeAt (wordsRead o) → figureFound t o ≡ figureFound u o
+  same-figure : (o : Option ℕ) → AgreeOn t u (wordsRead o) → figureFound t o ≡ figureFound u o
   same-figure none agree = refl
-  same-figure (some k) agree = each-behind agreeAt (map (λ i. marksAt + i) (numbersBelow (suc k))) ((figuresAt + k) ∷ []) agree .0
+  same-figure (some k) agree = each-behind agreeAt (map (λ i. marksAt + i) (numbersBelow (suc k))) ((placeFiguresAt + k) ∷ []) agree .0
 
-  pub same-answer : (n : ℕ) → Each agreeAt (wordsRead (markedPlace t n)) → askedOfStream t n ≡ askedOfStream u n
+  pub same-answer : (n : ℕ) → AgreeOn t u (wordsRead (markedPlace t n)) → askedOfStream t n ≡ askedOfStream u n
   same-answer n agree =
       let o = markedPlace t n in
       asked-found t n o refl long

@@ -182,25 +182,27 @@ module _ (d : Device) (s : allOf hasAllSlots (d .places) ≡ true) (eight : leng
 
 -- The figures of the places qs, behind the blocks of the places ps
 
+-- the words before them
+abbrev pub front-words : List Place → List Bool → List ℕ
+front-words ps s = blocks ps ++ (spentWords s ++ zeros gapSize)
+
+pub front-length : (ps : List Place) (s : List Bool) → allOf hasAllSlots ps ≡ true → length ps ≡ 8 → length (front-words ps s) ≡ totalAt
+front-length ps s sized eight =
+    omega (arith, length-append (blocks ps) (spentWords s ++ zeros gapSize), length-append (spentWords s) (zeros gapSize), blocks-length ps sized, spent-length s, zero-length gapSize)
+
+pub figures-seam : (ps qs : List Place) (s : List Bool) → blocks ps ++ behind s qs ≡ front-words ps s ++ (figureWords qs ++ zeros unusedSize)
+unfolding behind
+figures-seam ps qs s = simp append-assoc
+
 module _ (ps qs : List Place) (s : List Bool) (sized : allOf hasAllSlots ps ≡ true) (eight : length ps ≡ 8) (as-many : length qs ≡ 8) where
-  abbrev front-words : List ℕ
-  front-words = blocks ps ++ (spentWords s ++ zeros gapSize)
-
-  front-words-length : length front-words ≡ totalAt
-  front-words-length = omega (arith, length-append (blocks ps) (spentWords s ++ zeros gapSize), length-append (spentWords s) (zeros gapSize), blocks-length ps sized, spent-length s, zero-length gapSize)
-
-  pub figures-seam : blocks ps ++ behind s qs ≡ front-words ++ (figureWords qs ++ zeros unusedSize)
-  unfolding behind
-  figures-seam = simp append-assoc
-
   figures-in : part totalAt figuresSize (blocks ps ++ behind s qs) ≡ figureWords qs
-  figures-in = ap (part totalAt figuresSize) figures-seam ∙ part-mid front-words (figureWords qs) (zeros unusedSize) totalAt figuresSize front-words-length (figure-length qs as-many)
+  figures-in = ap (part totalAt figuresSize) (figures-seam ps qs s) ∙ part-mid (front-words ps s) (figureWords qs) (zeros unusedSize) totalAt figuresSize (front-length ps s sized eight) (figure-length qs as-many)
 
   figures-put : withPart totalAt figuresSize (blocks ps ++ behind s qs) (figureWords ps) ≡ blocks ps ++ behind s ps
   unfolding behind
   figures-put =
-      ap (λ (w : List ℕ). withPart totalAt figuresSize w (figureWords ps)) figures-seam
-      ∙ withPart-mid front-words (figureWords qs) (zeros unusedSize) totalAt figuresSize front-words-length (figure-length qs as-many) (figureWords ps)
+      ap (λ (w : List ℕ). withPart totalAt figuresSize w (figureWords ps)) (figures-seam ps qs s)
+      ∙ withPart-mid (front-words ps s) (figureWords qs) (zeros unusedSize) totalAt figuresSize (front-length ps s sized eight) (figure-length qs as-many) (figureWords ps)
       ∙ simp append-assoc
 
 -- a block is read before they are settled

@@ -1,5 +1,5 @@
--- The statements of specs/Promises, proved: the layout is lawful, valid is exactly the tables of well-formed devices, and condition 3 and the
--- model's other promises hold over its tables.
+-- The statements of specs/Promises, proved: the layout is lawful, valid is exactly the tables of well-formed devices, questions give what the records hold, and
+-- condition 3 and the model's other promises hold over its tables.
 use mathlib.Core.Path.{_≡_, refl, sym, ap, ap₂, _∙_, subst}
 use mathlib.Core.Bool.{Bool, true, _&&_}
 use mathlib.Core.Option.{Option, none, some}
@@ -7,11 +7,11 @@ use mathlib.Core.List.{List, [], _++_, map}
 use Prim.Native.Nat.{ℕ, zero, suc, _+_, _-_, _*_, _/_, _%_, _^_, _<_, _≤_}
 use native.Mathlib.Nat.{mul-zero, mul-suc}
 use native.Mathlib.Omega.{arith}
-use lib.ListN.{length, replicate, take, drop, getD}
+use lib.ListN.{length, replicate, take, drop, getD, length-append, length-map}
 use lib.Seq.{take-take, getD-take, getD-drop}
 use lib.Dec.{eqb}
 use borrow.Author.Tests.{eqb-true, ltb-true, lt-ltb}
-use Rattle.laws.specs.Lists.{allOf, same}
+use Rattle.laws.specs.Lists.{allOf, toList, same}
 use Rattle.laws.specs.Tests.{within}
 use Rattle.laws.specs.Parts.{zeros, pieces, readPieces}
 use Rattle.laws.proofs.Tests.{both, and-left, and-right, within-bounds}
@@ -20,13 +20,12 @@ use Rattle.laws.proofs.Parts.{zeros-append}
 use Rattle.laws.proofs.Pieces.{all-pieces}
 use Rattle.laws.proofs.Same.{same-refl}
 use Rattle.model.specs.Numbers.{tableWords, streamPlaces, streamNumbers, firstCoded, lastCoded}
-use Rattle.model.specs.Device.{created, queued, dequeued, Slot, free, resource, Queue, Stream, Place, vacant, occupied, Device, fresh, recordOf, pendingOf, pendingAt, pendingInAll}
-use Rattle.model.specs.Steps.{Step, Event, final}
+use Rattle.model.specs.Device.{created, queued, dequeued, Slot, free, resource, Queue, Stream, Place, vacant, occupied, Device, fresh, recordOf, pendingOf, pendingAt, pendingAmong}
+use Rattle.model.specs.Steps.{Event, final}
 use Rattle.model.specs.Ledger.{ledgerOf}
 use Rattle.model.specs.Commands.{goodExtent}
 use Rattle.model.specs.WellFormed.{u32, u64, goodSlot, goodSlots, goodQueue, goodDrain, goodPlace, spentIn, wellFormed}
 use Rattle.model.specs.Tables.{valid}
-use Rattle.model.proofs.Spent.{spent-below}
 use Rattle.model.proofs.WellFormed.{well-fresh, well-places, well-spent}
 use Rattle.model.proofs.Tables.{final-well, valid-device, valid-used, valid-whole, same-events, same-table, on-tables, fresh-short, fresh-long}
 use Rattle.model.proofs.Figures.{total-of-ledger}
@@ -37,14 +36,14 @@ use Rattle.model.proofs.LastPicture.{drains-end, no-drain-after-eos}
 use Rattle.model.proofs.Unchanged.{refusal-changes-nothing, error-changes-nothing, keeps-rest, stays-valid, writes-at-most}
 use Rattle.queue.specs.Words.{slotWords, queueWords}
 use Rattle.table.specs.Spent.{wordNumbers, spentSize, bitsWord, spentWords}
-use Rattle.table.specs.Figures.{placeMark, figureWords, markedPlace, wordsRead, askedInAll, askedOfStream}
+use Rattle.table.specs.Figures.{marksAt, placeFiguresAt, placeMark, figureWords, markedPlace, placesVisited, wordsRead, askedInAll, askedOfStream}
 use Rattle.table.specs.Blocks.{drainWords, headWords, placeWords, blocks, blocksSize, gapSize, unusedSize, behind, encode, decode, layout}
 use Rattle.table.specs.Search.{findStream, hasAllSlots}
-use Rattle.table.specs.Promises.{MeetsLaws, ValidExactly, Narrow, SpentBits, FreshIsZero, readsFor, FewWords, NoOtherWord, Counts, CountsRight, TotalOfLedger, ConditionThree, TablePromises}
+use Rattle.table.specs.Promises.{MeetsLaws, ValidExactly, Narrow, SpentBits, FreshIsZero, ShortRefused, readsFor, FewWords, NoOtherWord, Counts, CountsRight, TotalOfLedger, ConditionThree, TablePromises}
 use Rattle.table.proofs.Bits.{spent-narrow, numberBit, bit-spent}
 use Rattle.table.specs.declared.figures.PendingFigure.{PendingFigure}
 use Rattle.table.proofs.Records.{used-length, spent-part, decode-device}
-use Rattle.table.proofs.Counted.{pending-most, all-most, asked-found, reads-found, marked-below, total-long, total-there, long-enough, asked-stream, same-answer, same-total}
+use Rattle.table.proofs.Counted.{mark-below, pending-most, all-most, asked-found, reads-found, marked-below, total-short, stream-short, total-long, total-there, long-enough, asked-stream, same-answer, same-total}
 
 -- The laws
 
@@ -168,10 +167,8 @@ narrow-place (occupied n b) h =
     (all-append u32 ins (outs ++ zeros 336)
     ∙ both (narrow-queue (b .inputs) (good-inputs n b h)) (all-append u32 outs (zeros 336) ∙ both (narrow-queue (b .outputs) (good-outputs n b h)) (narrow-zeros 336)))
 
--- the number of a live place is below 1,024, and so its mark is a word
 narrow-mark : (s : List Bool) → length s ≡ streamNumbers → (p : Place) → spentIn s p ≡ true → u32 (placeMark p) ≡ true
-narrow-mark s long vacant h = u32-of 0 (omega arith)
-narrow-mark s long (occupied n b) h = u32-of (suc n) (omega (arith, spent-below n s h))
+narrow-mark s long p h = u32-of (placeMark p) (omega (arith, mark-below s long p h))
 
 narrow-pending : (p : Place) → hasAllSlots p ≡ true → u32 (pendingAt p) ≡ true
 narrow-pending p h = u32-of (pendingAt p) (omega (arith, pending-most p h))
@@ -180,7 +177,7 @@ narrow-figures : (d : Device) → wellFormed d ≡ true → allOf u32 (figureWor
 unfolding figureWords
 narrow-figures d h =
     let ps = d .places in
-    both (u32-of (pendingInAll ps) (omega (arith, all-most ps (well-sized d h), well-eight d h)))
+    both (u32-of (pendingAmong ps) (omega (arith, all-most ps (well-sized d h), well-eight d h)))
     (all-append u32 (map placeMark ps) (map pendingAt ps)
     ∙ both (all-map (spentIn (d .spent)) u32 placeMark (narrow-mark (d .spent) (well-numbers d h)) ps (well-spent d h .each)) (all-map hasAllSlots u32 pendingAt narrow-pending ps (well-sized d h)))
 
@@ -237,10 +234,20 @@ reads-for : (o : Option ℕ) → length (wordsRead o) ≡ readsFor o
 reads-for none = refl
 reads-for (some k) = reads-found k
 
+pub short-refused : ShortRefused
+short-refused t h = (total-short t h, λ n. stream-short t n h)
+
+-- as many as the places and the figure
+places-read : (o : Option ℕ) → length (wordsRead o) ≡ length (placesVisited o) + length (toList o)
+places-read o =
+    length-append (map (λ k. marksAt + k) (placesVisited o)) (map (λ k. placeFiguresAt + k) (toList o))
+    ∙ ap₂ _+_ (length-map (placesVisited o) (λ k. marksAt + k)) (length-map (toList o) (λ k. placeFiguresAt + k))
+
 pub few-words : FewWords
 few-words t long = record {
   forTotal = ap (λ (f : PendingFigure). f .reads) (total-long t long);
   forStream = reads;
+  forPlaces = λ n. ap (λ (f : PendingFigure). f .reads) (asked-found t n (markedPlace t n) refl long) ∙ places-read (markedPlace t n);
   atMost = λ n. most n (markedPlace t n) refl;
 }
   where
@@ -297,6 +304,7 @@ table-promises =
       spentForGood = spent-for-good layout meets-laws;
       drainsEnd = drains-end layout meets-laws;
       noDrainAfterEos = no-drain-after-eos layout meets-laws;
+      shortRefused = short-refused;
       fewWords = few-words;
       noOtherWord = no-other-word;
       countsRight = counts-right;

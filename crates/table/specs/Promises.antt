@@ -7,10 +7,10 @@ use mathlib.Core.Option.{Option, none, some}
 use mathlib.Core.List.{List, [], _∷_}
 use lib.ListN.{length, take, getD}
 use lib.Dec.{eqb}
-use Rattle.laws.specs.Lists.{allOf, Each}
+use Rattle.laws.specs.Lists.{allOf, toList}
 use Rattle.laws.specs.Parts.{zeros}
 use Rattle.model.specs.Numbers.{tableWords, streamNumbers}
-use Rattle.model.specs.Device.{Device, fresh, recordOf, pendingOf, pendingInAll, isSpent}
+use Rattle.model.specs.Device.{Device, fresh, recordOf, pendingOf, pendingAmong, isSpent}
 use Rattle.model.specs.Steps.{Step}
 use Rattle.model.specs.Ledger.{ledgerOf}
 use Rattle.model.specs.WellFormed.{u32, wellFormed, goodSteps}
@@ -18,11 +18,11 @@ use Rattle.model.specs.Tables.{Lawful, valid, freshen, tableEvents, tableFinal}
 use Rattle.model.specs.Promises.{FreshShort, FreshLong, RefusalChangesNothing, ErrorChangesNothing, KeepsRest, StaysValid, OnlyListed, NoTableRefusal, WritesAtMost, SpentForGood, SpentExactly, DrainsEnd, NoDrainAfterEos}
 use Rattle.model.specs.Condition3.{OnTables}
 use Rattle.table.specs.Spent.{wordNumbers}
-use Rattle.table.specs.Figures.{totalAt, markedPlace, wordsRead, askedInAll, askedOfStream}
+use Rattle.table.specs.Figures.{totalAt, markedPlace, placesVisited, wordsRead, AgreeOn, askedInAll, askedOfStream}
 use Rattle.table.specs.Blocks.{blocksSize, encode, decode, layout}
 use Rattle.table.specs.Search.{findStream}
 
--- it meets the two laws
+-- it meets the laws
 abbrev pub MeetsLaws : Type 0
 MeetsLaws = Lawful layout
 
@@ -50,24 +50,29 @@ FreshIsZero = encode fresh ≡ zeros tableWords
 
 -- Questions for pending answers. The numbers are those of 02, written out.
 
+-- a table that is too short is refused with 1, with 0 and 0 words
+abbrev pub ShortRefused : Type 0
+ShortRefused =
+    (t : List ℕ) → length t < tableWords
+    → (askedInAll t ≡ record { refusal = 1; pending = 0; reads = 0 }) × ((n : ℕ) → askedOfStream t n ≡ record { refusal = 1; pending = 0; reads = 0 })
+
 -- how many words a question for a stream reads: the mark of each place up to its own, k counted from 0, and its figure; or eight marks
 abbrev pub readsFor : Option ℕ → ℕ
 readsFor none = 8
 readsFor (some k) = k + 2
 
--- on any table that is long enough: the place is that of the first mark that is the number's, and no more than nine words are read
+-- on any table that is long enough: the place is that of the first mark that is the number's; the words read are as many as the places that are visited, and one
+-- more for the figure where it is found; they are no more than nine
 pub record ReadsFew (t : List ℕ) : Type 0 where
   pub forTotal : askedInAll t .reads ≡ 1
   pub forStream : (n : ℕ) → askedOfStream t n .reads ≡ readsFor (markedPlace t n)
+  pub forPlaces : (n : ℕ) → askedOfStream t n .reads ≡ length (placesVisited (markedPlace t n)) + length (toList (markedPlace t n))
   pub atMost : (n : ℕ) → askedOfStream t n .reads ≤ 9
 
 abbrev pub FewWords : Type 0
 FewWords = (t : List ℕ) → tableWords ≤ length t → ReadsFew t
 
 -- two tables that agree on the words that a question reads give it one answer: no other word matters
-abbrev pub AgreeOn : List ℕ → List ℕ → List ℕ → Type 0
-AgreeOn t u words = Each (λ i. getD t i 0 ≡ getD u i 0) words
-
 pub record OnlyRead (t u : List ℕ) : Type 0 where
   pub totalOnly : AgreeOn t u (totalAt ∷ []) → askedInAll t ≡ askedInAll u
   pub streamOnly : (n : ℕ) → AgreeOn t u (wordsRead (markedPlace t n)) → askedOfStream t n ≡ askedOfStream u n
@@ -77,7 +82,7 @@ NoOtherWord = (t u : List ℕ) → tableWords ≤ length t → tableWords ≤ le
 
 -- on a table that stands for the device d: a question gives what going through every resource and drain gives
 pub record Counts (t : List ℕ) (d : Device) : Type 0 where
-  pub inAll : askedInAll t ≡ record { refusal = 0; pending = pendingInAll (d .places); reads = 1 }
+  pub inAll : askedInAll t ≡ record { refusal = 0; pending = pendingAmong (d .places); reads = 1 }
   pub ofStream : (n : ℕ) → askedOfStream t n ≡ record { refusal = 0; pending = pendingOf (recordOf n (d .places)); reads = readsFor (findStream n (d .places)) }
 
 -- so of every valid table
@@ -95,7 +100,7 @@ TotalOfLedger =
 abbrev pub ConditionThree : Type 0
 ConditionThree = OnTables layout
 
--- the promises of model/specs/Promises over the tables of this device, with no layout left open
+-- the promises of model/specs/Promises over the tables of this device, with no layout left open, and those on questions
 pub record TablePromises : Type 0 where
   -- a short table is not made fresh; any other is, and then stands for no stream and no spent number
   pub freshShort : FreshShort layout
@@ -122,7 +127,8 @@ pub record TablePromises : Type 0 where
   pub drainsEnd : DrainsEnd layout
   -- so that after every accepted finish with EOS its stream has no drain pending
   pub noDrainAfterEos : NoDrainAfterEos layout
-  -- a question reads at most nine words, and looks at no other
+  -- a question refuses a short table; it reads at most nine words, and looks at no other
+  pub shortRefused : ShortRefused
   pub fewWords : FewWords
   pub noOtherWord : NoOtherWord
   -- of a valid table it gives what the records hold, and after a list of steps what the ledger has

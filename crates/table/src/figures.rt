@@ -23,12 +23,12 @@ use crate::block::QUEUES_END;
 use protocol::SHORT_TABLE;
 use queue::Found;
 
-// The words of the table: the figure of all, the marks of the places, their figures, and the first word behind them.
+// The words of the table: the total, the marks of the places, their figures, and the first word behind them.
 pub const TOTAL_AT: usize = 4129;
 
 const MARKS_AT: usize = 4130;
 
-const FIGURES_AT: usize = 4138;
+const PLACE_FIGURES_AT: usize = 4138;
 
 pub const FIGURES_END: usize = 4146;
 
@@ -61,7 +61,7 @@ pub fn mark_of(b: &[u32]) -> u32
 }
 
 // Whether a word is the mark of that stream number. The word of a vacant place is nobody's.
-pub fn is_mark(word: u32, number: u32) -> bool
+fn is_mark(word: u32, number: u32) -> bool
     ensures { λ r. ⌜ r ≡ eqb word (suc number) ⌝ }
 {
     if word == 0 {
@@ -99,7 +99,7 @@ pub fn add_up(w: &[u32]) -> u32
     all
 }
 
-// The mark and the figure of a place are written, and the figure of all with them.
+// The mark and the figure of a place are written, and the total with them.
 pub fn put_figure(w: &mut [u32], k: usize, mark: u32, pending: u32)
     requires { ⌜ (length (now w) ≡ figuresSize) × (k < streamPlaces) ⌝ }
     ensures { λ _. ⌜ ((ps : List Place) (p : Place) → length ps ≡ streamPlaces → allOf hasAllSlots (set ps k p) ≡ true → now (w .entry) ≡ figureWords ps → mark ≡ placeMark p → pending ≡ pendingAt p → now (w .exit) ≡ figureWords (set ps k p)) ⌝ }
@@ -140,7 +140,7 @@ pub fn pending_of_stream(table: &[u32], stream: u32) -> PendingFigure
     };
     PendingFigure {
         refusal: 0,
-        pending: table[FIGURES_AT + k],
+        pending: table[PLACE_FIGURES_AT + k],
         reads: k as u32 + 2,
     }
 }

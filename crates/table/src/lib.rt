@@ -36,7 +36,6 @@ pub use figures::PendingFigure;
 pub use figures::TOTAL;
 pub use figures::TOTAL_AT;
 pub use figures::add_up;
-pub use figures::is_mark;
 pub use figures::mark_of;
 pub use figures::pending_in;
 pub use figures::pending_in_all;

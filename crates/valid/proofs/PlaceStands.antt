@@ -1,6 +1,6 @@
 -- The test whether words are those of the device that they stand for, block by block and part by part.
 use mathlib.Core.Path.{_≡_, refl, sym, ap, ap₂, _∙_, subst}
-use mathlib.Core.Bool.{Bool, true, false, _&&_, and-true, and-false, and-comm, and-assoc}
+use mathlib.Core.Bool.{Bool, true, false, _&&_, and-true, and-false, and-assoc}
 use mathlib.Core.List.{List, [], _∷_, _++_}
 use Prim.Native.Nat.{ℕ, _+_, _*_, _%_, _^_, _<_, _≤_}
 use native.Mathlib.Omega.{arith}
@@ -17,7 +17,7 @@ use Rattle.laws.proofs.Lists.{decide, cond-elim, eqb-same}
 use Rattle.laws.proofs.Same.{same-eq, same-true, same-cut}
 use Rattle.laws.proofs.Pieces.{same-pieces, read-length, read-at, all-places, all-read, pieces-again}
 use Rattle.model.specs.Numbers.{tableWords, streamPlaces, streamNumbers}
-use Rattle.model.specs.Device.{QueueType, input, output, Stream, Place, vacant, queueOf, pendingAt, pendingInAll}
+use Rattle.model.specs.Device.{QueueType, input, output, Stream, Place, vacant, queueOf, pendingAt, pendingAmong}
 use Rattle.model.specs.WellFormed.{goodPlace, distinctPlaces, goodPlaces, spentIn, wellFormed}
 use Rattle.model.specs.Tables.{valid}
 use Rattle.queue.specs.Words.{queueWords, decodeQueue}
@@ -29,6 +29,7 @@ use Rattle.table.specs.Search.{placeAt, hasAllSlots}
 use Rattle.valid.specs.Rules.{headStands, placeStands, placeSpent, placeValid, placeRight, numbersFrom, blocksValid, blocksRight}
 use Rattle.table.proofs.Bits.{spent-length, all-words, spent-decoded, spent-again}
 use Rattle.table.proofs.Records.{head-length, queue-sized, place-length, blocks-length, figure-length}
+use Rattle.table.proofs.Counted.{mark-below}
 use Rattle.valid.proofs.Elements.{places-numbers}
 use Rattle.valid.proofs.FigureStands.{countedAt, figures-test, counted-sum}
 
@@ -107,11 +108,16 @@ module _ (b : List ℕ) (long : length b ≡ 512) (live : getD b 0 0 ≡ 1) wher
       rw (eq-eqb (getD b 0 0) 1 live)
       (cut8 ∙ ap (λ (x : Bool). headStands (take 8 b) && x) (cut92 ∙ ap (λ (x : Bool). queueStands 8 && x) cut176))
 
+-- where the number of a block's stream is spent, its mark is exact
+pub mark-exact : {r : ℕ} (spent b : List ℕ) → length spent ≡ spentSize → placeSpent spent b ≡ true → r ≡ placeMark (decodePlace b) % 2 ^ 32 → r ≡ placeMark (decodePlace b)
+unfolding placeSpent
+mark-exact spent b long s e = omega (arith, e, mark-below (decodeSpent spent) (spent-decoded spent long) (decodePlace b) s)
+
 -- a vacant block, with its mark and its figure: each of the three tests may fail
 module _ (spent : List ℕ) (mark figure : ℕ) (b : List ℕ) (first : getD b 0 0 ≡ 0) where
   vacant-right : placeRight spent mark figure b ≡ (same b (zeros 512) && (eqb mark 0 && eqb figure 0))
-  unfolding placeRight placeSpent decodePlace placeWords
-  vacant-right = rw (ne-eqb (getD b 0 0) 1 (λ e. omega (arith, first, e)))
+  unfolding placeRight placeValid placeSpent decodePlace placeWords
+  vacant-right = rw (ne-eqb (getD b 0 0) 1 (λ e. omega (arith, first, e)), and-true (same b (zeros 512)))
 
   pub vacant-marked : (mark ≡ 0 → ⊥) → false ≡ placeRight spent mark figure b
   vacant-marked h = sym (vacant-right ∙ rw (ne-eqb mark 0 h) (and-false (same b (zeros 512))))
@@ -254,9 +260,6 @@ module _ (t : List ℕ) (long : length t ≡ tableWords) where
     abbrev front : List ℕ
     front = take blocksSize t
 
-    regroup : (s g p c : Bool) → (s && (g && p)) && c ≡ s && (g && (p && c))
-    regroup s g p c = and-assoc s (g && p) c ∙ ap (λ (x : Bool). s && x) (and-assoc g p c)
-
     -- the tests of all places, those of their numbers, the gap, the total, the counts and the words behind
     reorder : (a d g t c u : Bool) → (a && d) && (g && ((t && c) && u)) ≡ ((a && c) && d) && (g && (t && u))
     reorder false d g t c u = refl
@@ -267,15 +270,14 @@ module _ (t : List ℕ) (long : length t ≡ tableWords) where
 
     each-right : (allBelow streamPlaces (λ k. placeValid numbers (part (placeSize * k) placeSize front)) && allBelow streamPlaces (countedAt figures (placesIn front)))
         ≡ allBelow streamPlaces (λ k. placeRight numbers (getD figures (1 + k) 0) (getD figures (9 + k) 0) (part (placeSize * k) placeSize front))
-    unfolding placeValid placeRight placesIn
+    unfolding placeRight placesIn
     each-right =
         sym (below-both _ _ streamPlaces)
         ∙ all-ext _ _ streamPlaces (λ k h.
         let w = part (placeSize * k) placeSize front in
         let mark = getD figures (1 + k) 0 in
         let figure = getD figures (9 + k) 0 in
-        ap (λ (p : Place). placeValid numbers w && (eqb mark (placeMark p) && eqb figure (pendingAt p))) (read-at decodePlace placeSize streamPlaces front k vacant h)
-        ∙ regroup (placeStands w) (goodPlace (decodePlace w)) (placeSpent numbers w) (eqb mark (placeMark (decodePlace w)) && eqb figure (pendingAt (decodePlace w))))
+        ap (λ (p : Place). placeValid numbers w && (eqb mark (placeMark p) && eqb figure (pendingAt p))) (read-at decodePlace placeSize streamPlaces front k vacant h))
 
     abbrev gapZero : Bool
     gapZero = same (part (blocksSize + spentSize) gapSize t) (zeros gapSize)
@@ -284,7 +286,7 @@ module _ (t : List ℕ) (long : length t ≡ tableWords) where
     unusedZero = same (part (totalAt + figuresSize) unusedSize t) (zeros unusedSize)
 
     abbrev totalRight : Bool
-    totalRight = eqb (getD figures 0 0) (pendingInAll (placesIn front))
+    totalRight = eqb (getD figures 0 0) (pendingAmong (placesIn front))
 
     figures-size : length figures ≡ figuresSize
     figures-size = length-take-le figuresSize (drop totalAt t) (omega (arith, length-drop totalAt t))
@@ -301,7 +303,7 @@ module _ (t : List ℕ) (long : length t ≡ tableWords) where
         ∙ ap (λ (x : Bool). (x && once) && (gapZero && (totalRight && unusedZero))) each-right
 
     -- where the blocks are right, the total that is kept has to be the sum of the figures
-    pub right-sum : blocksRight numbers figures front ≡ true → total (part 9 streamPlaces figures) % 2 ^ 32 ≡ pendingInAll (placesIn front)
+    pub right-sum : blocksRight numbers figures front ≡ true → total (part 9 streamPlaces figures) % 2 ^ 32 ≡ pendingAmong (placesIn front)
     unfolding blocksRight
     right-sum e =
         counted-sum figures (placesIn front) figures-size (decode-eight front) (decode-sized front)

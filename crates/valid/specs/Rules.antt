@@ -13,7 +13,7 @@ use Rattle.model.specs.Numbers.{streamPlaces}
 use Rattle.model.specs.Device.{pendingAt}
 use Rattle.model.specs.WellFormed.{goodPlace, spentIn}
 use Rattle.table.specs.Spent.{decodeSpent}
-use Rattle.table.specs.Figures.{placeMark}
+use Rattle.table.specs.Figures.{firstMark, firstFigure, placeMark}
 use Rattle.table.specs.Blocks.{placeSize, headWords, drainIn, placeWords, decodePlace}
 
 -- eight words are the head of the live stream that they stand for
@@ -34,8 +34,7 @@ placeValid spent w = placeStands w && (goodPlace (decodePlace w) && placeSpent s
 
 -- and the mark and the figure are those of the place
 unfoldable pub placeRight : List ℕ → ℕ → ℕ → List ℕ → Bool
-placeRight spent mark figure w =
-    placeStands w && (goodPlace (decodePlace w) && (placeSpent spent w && (eqb mark (placeMark (decodePlace w)) && eqb figure (pendingAt (decodePlace w)))))
+placeRight spent mark figure w = placeValid spent w && (eqb mark (placeMark (decodePlace w)) && eqb figure (pendingAt (decodePlace w)))
 
 -- the number in an element's words: none where the first is 0, otherwise the second
 abbrev pub wordsNumber : List ℕ → Option ℕ
@@ -52,7 +51,7 @@ blocksValid spent w = allBelow streamPlaces (λ k. placeValid spent (part (place
 -- and the figures give the mark and the figure of each
 unfoldable pub blocksRight : List ℕ → List ℕ → List ℕ → Bool
 blocksRight spent figures w =
-    allBelow streamPlaces (λ k. placeRight spent (getD figures (1 + k) 0) (getD figures (9 + k) 0) (part (placeSize * k) placeSize w)) && distinct (numbersFrom 0 placeSize streamPlaces w)
+    allBelow streamPlaces (λ k. placeRight spent (getD figures (firstMark + k) 0) (getD figures (firstFigure + k) 0) (part (placeSize * k) placeSize w)) && distinct (numbersFrom 0 placeSize streamPlaces w)
 
 -- Sixty-four marks. Each number leaves one, so that a number whose mark is missing is new.
 

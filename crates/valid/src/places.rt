@@ -11,11 +11,10 @@ ghost use Rattle.model.specs.Device.{Place};
 ghost use Rattle.model.specs.WellFormed.{goodPlace};
 ghost use Rattle.model.specs.Tables as tables;
 ghost use Rattle.table.specs.Spent.{spentSize};
-ghost use Rattle.table.specs.Figures.{figuresSize};
+ghost use Rattle.table.specs.Figures.{figuresSize, firstMark, firstFigure};
 ghost use Rattle.table.specs.Blocks.{placeSize, placeWords, blocksSize, layout};
 ghost use Rattle.table.specs.Search.{hasAllSlots};
 ghost use Rattle.valid.specs.Rules.{headStands, placeStands, placeSpent, placeRight, blocksRight};
-use crate::figures::mark_stands;
 use crate::figures::total_stands;
 use crate::numbers::numbers_distinct;
 use crate::queues::all_zero;
@@ -105,7 +104,7 @@ fn place_spent(b: &[u32], spent: &[u32]) -> bool
 }
 
 // Whether a block's words are those of a place that keeps the rules, the number of its stream being spent, and its mark and its figure are its own.
-fn live_valid(b: &[u32], spent: &[u32], mark: u32, figure: u32) -> bool
+fn block_valid(b: &[u32], spent: &[u32], mark: u32, figure: u32) -> bool
     requires { ⌜ (length (now b) ≡ placeSize) × (length (now spent) ≡ spentSize) ⌝ }
     ensures { λ r. ⌜ r ≡ placeRight (now (spent .entry)) mark figure (now (b .entry)) ⌝ }
 {
@@ -118,13 +117,13 @@ fn live_valid(b: &[u32], spent: &[u32], mark: u32, figure: u32) -> bool
     if !place_spent(b, spent) {
         return false;
     }
-    if !mark_stands(b, mark) {
+    if mark != table::mark_of(b) {
         return false;
     }
     figure == table::pending_in(b)
 }
 
-// The same of a block whose first word is 0: all its words are, and its mark and its figure.
+// The same of a block whose first word is 0: all its words are 0, and so are its mark and its figure.
 fn vacant_valid(b: &[u32], mark: u32, figure: u32) -> bool
     requires { ⌜ (length (now b) ≡ placeSize) × (getD (now b) 0 0 ≡ 0) ⌝ }
     ensures { λ r. ⌜ ((spent : List ℕ) → r ≡ placeRight spent mark figure (now (b .entry))) ⌝ }
@@ -138,7 +137,7 @@ fn vacant_valid(b: &[u32], mark: u32, figure: u32) -> bool
     all_zero(b)
 }
 
-// Whether a block is right. A vacant one is told from its first word, so that most of the tests are left out.
+// The same. A vacant block is told by its first word, so that most of the tests are left out.
 fn place_valid(b: &[u32], spent: &[u32], mark: u32, figure: u32) -> bool
     requires { ⌜ (length (now b) ≡ placeSize) × (length (now spent) ≡ spentSize) ⌝ }
     ensures { λ r. ⌜ r ≡ placeRight (now (spent .entry)) mark figure (now (b .entry)) ⌝ }
@@ -146,13 +145,13 @@ fn place_valid(b: &[u32], spent: &[u32], mark: u32, figure: u32) -> bool
     if b[LIVE] == 0 {
         return vacant_valid(b, mark, figure);
     }
-    live_valid(b, spent, mark, figure)
+    block_valid(b, spent, mark, figure)
 }
 
 // Whether the words of eight blocks are those of such places, with the marks and the figures.
 fn places_valid(t: &[u32], spent: &[u32], w: &[u32]) -> bool
     requires { ⌜ (length (now t) ≡ blocksSize) × (length (now spent) ≡ spentSize) × (length (now w) ≡ figuresSize) ⌝ }
-    ensures { λ r. ⌜ r ≡ allBelow streamPlaces (λ k. placeRight (now (spent .entry)) (getD (now (w .entry)) (1 + k) 0) (getD (now (w .entry)) (9 + k) 0) (part (placeSize * k) placeSize (now (t .entry)))) ⌝ }
+    ensures { λ r. ⌜ r ≡ allBelow streamPlaces (λ k. placeRight (now (spent .entry)) (getD (now (w .entry)) (firstMark + k) 0) (getD (now (w .entry)) (firstFigure + k) 0) (part (placeSize * k) placeSize (now (t .entry)))) ⌝ }
 {
     let mut k = 0;
     while k < PLACES {

@@ -1,4 +1,5 @@
-//! Time and instructions per step, beside the independent device on the same input.
+//! Time and instructions per step, beside the independent device on the same input, and per question
+//! for pending answers.
 //!
 //!     cargo run --release --example bench
 //!
@@ -139,6 +140,20 @@ fn cases() -> Vec<Case> {
     ]
 }
 
+/// A stream to ask for, or none to ask in all, on a full device with a stream of its own number in each
+/// place.
+struct Question {
+    name: &'static str,
+    stream: Option<u32>,
+}
+
+const QUESTIONS: [Question; 4] = [
+    Question { name: "in all", stream: None },
+    Question { name: "stream in the first place", stream: Some(0) },
+    Question { name: "stream in the last place", stream: Some(7) },
+    Question { name: "stream that is not there", stream: Some(8) },
+];
+
 /// One step by the archive; gives the bytes written.
 fn by_core(table: &mut Table, act: &Act) -> u32 {
     let mut room = [0; wire::ANSWER_ROOM];
@@ -176,26 +191,45 @@ fn rounds(case: &Case, who: Who, count: u32) {
         Who::Independent => by_independent,
     };
     let mut table = case.table.clone();
+    let spent = SPENT_AT..SPENT_AT + wire::STREAM_NUMBERS / 32;
     for _ in 0..count {
         for act in &case.round {
             black_box(step(&mut table, act));
         }
         // Else the next round's creations would fail.
-        table[SPENT_AT..].copy_from_slice(&case.table[SPENT_AT..]);
+        table[spent.clone()].copy_from_slice(&case.table[spent.clone()]);
     }
     assert!(table == case.table, "{}: not a round", case.name);
 }
 
-/// Nanoseconds of one step: the best of seven runs of some milliseconds.
-fn time(case: &Case, who: Who) -> f64 {
+/// Asks so many times; gives the words read each time.
+fn ask(question: &Question, table: &Table, count: u32) -> u32 {
+    let mut words_read = 0;
+    for _ in 0..count {
+        let said = match black_box(question.stream) {
+            None => ffi::pending_in_all(black_box(table)),
+            Some(stream) => ffi::pending_of_stream(black_box(table), stream),
+        };
+        words_read = black_box(said).words_read;
+    }
+    words_read
+}
+
+/// Nanoseconds of one round of a run of so many: the best of seven runs of some milliseconds.
+fn best(run: impl Fn(u32)) -> f64 {
     let once = |count| {
         let start = Instant::now();
-        rounds(case, who, count);
+        run(count);
         start.elapsed().as_secs_f64()
     };
     let count = (0.02 / once(50) * 50.0) as u32 + 1;
     let best = (0..7).map(|_| once(count)).fold(f64::INFINITY, f64::min);
-    best * 1e9 / f64::from(count) / case.round.len() as f64
+    best * 1e9 / f64::from(count)
+}
+
+/// Nanoseconds of one step.
+fn time(case: &Case, who: Who) -> f64 {
+    best(|count| rounds(case, who, count)) / case.round.len() as f64
 }
 
 /// What counts the instructions of a run of this program.
@@ -233,45 +267,33 @@ fn counted(counter: Counter, words: &[String]) -> Option<f64> {
     number.trim().parse().ok().filter(|_| output.status.success())
 }
 
-/// Instructions of one step.
-fn instructions(counter: Counter, index: usize, case: &Case, who: Who) -> Option<f64> {
-    let count = 200;
+/// Instructions of one round, by a run of so many and one of twice as many.
+fn instructions(counter: Counter, what: &str, index: usize, count: u32) -> Option<f64> {
     let run = |count: u32| {
-        let who = match who {
-            Who::Core => "core",
-            Who::Independent => "independent",
-        };
-        counted(counter, &["run".into(), index.to_string(), who.into(), count.to_string()])
+        counted(counter, &["run".into(), index.to_string(), what.into(), count.to_string()])
     };
-    let more = run(2 * count)? - run(count)?;
-    Some(more / f64::from(count) / case.round.len() as f64)
+    Some((run(2 * count)? - run(count)?) / f64::from(count))
 }
 
-fn main() {
-    let cases = cases();
-    let words: Vec<String> = env::args().skip(1).collect();
-    if let [run, index, who, count] = &words[..] {
-        assert_eq!(run, "run");
-        let index: usize = index.parse().expect("the number of a case");
-        let who = if who == "core" { Who::Core } else { Who::Independent };
-        rounds(&cases[index], who, count.parse().expect("a count"));
-        return;
+/// The run that another run of this program counts.
+fn run(index: &str, what: &str, count: &str) {
+    let index: usize = index.parse().expect("the number of a case or question");
+    let count = count.parse().expect("a count");
+    match what {
+        "core" => rounds(&cases()[index], Who::Core, count),
+        "independent" => rounds(&cases()[index], Who::Independent, count),
+        "question" => _ = ask(&QUESTIONS[index], &device(8, 16, true), count),
+        other => panic!("{other}"),
     }
+}
 
-    let idle: Vec<String> = vec!["run".into(), "0".into(), "core".into(), "1".into()];
-    let counter = [Counter::Perf, Counter::Callgrind]
-        .into_iter()
-        .find(|&counter| counted(counter, &idle).is_some());
-    match counter {
-        Some(counter) => println!("Instructions counted by {counter:?}."),
-        None => println!("Neither perf nor valgrind counts instructions here: times only."),
-    }
+fn compare_steps(counter: Option<Counter>) {
     println!("{:<36}|{:^29}|{:^29}", "", "nanoseconds per step", "instructions per step");
     println!(
         "{:<36}|{:>9}{:>13}{:>7}|{:>9}{:>13}{:>7}",
         "steps", "core", "independent", "ratio", "core", "independent", "ratio"
     );
-    for (index, case) in cases.iter().enumerate() {
+    for (index, case) in cases().iter().enumerate() {
         let times = [Who::Core, Who::Independent].map(|who| time(case, who));
         print!(
             "{:<36}|{:>9.0}{:>13.0}{:>7.2}|",
@@ -281,8 +303,8 @@ fn main() {
             times[0] / times[1]
         );
         let counts = counter.and_then(|counter| {
-            let core = instructions(counter, index, case, Who::Core)?;
-            Some((core, instructions(counter, index, case, Who::Independent)?))
+            let of = |who| Some(instructions(counter, who, index, 200)? / case.round.len() as f64);
+            Some((of("core")?, of("independent")?))
         });
         match counts {
             Some((core, other)) => println!("{core:>9.0}{other:>13.0}{:>7.2}", core / other),
@@ -290,4 +312,37 @@ fn main() {
         }
     }
     println!("A ratio is that of the core to the independent device; under 1 the core does less.");
+}
+
+fn measure_questions(counter: Option<Counter>) {
+    let table = device(8, 16, true);
+    println!();
+    println!("{:<36}|{:>13}{:>14}{:>12}", "questions", "nanoseconds", "instructions", "words read");
+    for (index, question) in QUESTIONS.iter().enumerate() {
+        let time = best(|count| _ = ask(question, &table, count));
+        let words_read = ask(question, &table, 1);
+        print!("{:<36}|{time:>13.1}", question.name);
+        match counter.and_then(|counter| instructions(counter, "question", index, 100_000)) {
+            Some(count) => println!("{count:>14.0}{words_read:>12}"),
+            None => println!("{:>14}{words_read:>12}", "-"),
+        }
+    }
+}
+
+fn main() {
+    let words: Vec<String> = env::args().skip(1).collect();
+    if let [first, index, what, count] = &words[..] {
+        assert_eq!(first, "run");
+        return run(index, what, count);
+    }
+    let idle: Vec<String> = vec!["run".into(), "0".into(), "core".into(), "1".into()];
+    let counter = [Counter::Perf, Counter::Callgrind]
+        .into_iter()
+        .find(|&counter| counted(counter, &idle).is_some());
+    match counter {
+        Some(counter) => println!("Instructions counted by {counter:?}."),
+        None => println!("Neither perf nor valgrind counts instructions here: times only."),
+    }
+    compare_steps(counter);
+    measure_questions(counter);
 }

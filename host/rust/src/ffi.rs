@@ -1,5 +1,5 @@
-//! The six functions of the two archives, over lent slices: four of the decoder and one that checks a
-//! log, and one of the sound device.
+//! The eight functions of the two archives, over lent slices: four of the decoder, two that ask what is
+//! pending there, one that checks a log, and one of the sound device.
 //!
 //! This is the only module with `unsafe`, and it holds nothing else: a Rust slice is what the
 //! functions ask of a pointer and its count (true length, alignment, nobody else at it). They take
@@ -17,6 +17,18 @@ pub struct Outcome {
     pub refusal: u32,
     /// Bytes of answers at the start of the room; 0 with a refusal.
     pub written: u32,
+}
+
+/// What is said of pending answers.
+#[repr(C)]
+#[derive(Clone, Copy, Debug, PartialEq, Eq)]
+pub struct Pending {
+    /// 0, or 1 for a short table.
+    pub refusal: u32,
+    /// How many answers are pending; 0 with a refusal.
+    pub pending: u32,
+    /// How many words of the table were read; 0 with a refusal.
+    pub words_read: u32,
 }
 
 /// What is said of a log.
@@ -74,6 +86,10 @@ extern "C" {
         answers: *mut u8,
         answers_len: usize,
     ) -> Outcome;
+
+    fn virtio_video_pending_in_all(table: *const u32, words: usize) -> Pending;
+
+    fn virtio_video_pending_of_stream(table: *const u32, words: usize, stream: u32) -> Pending;
 
     fn virtio_video_check_log(log: *const u8, log_len: usize) -> Verdict;
 
@@ -152,6 +168,19 @@ pub fn drained(table: &mut [u32], stream: u32, answers: &mut [u8]) -> Outcome {
             answers.len(),
         )
     }
+}
+
+/// How many answers are pending in all. The words may be any, and the validity of the table is not
+/// tested.
+pub fn pending_in_all(table: &[u32]) -> Pending {
+    // SAFETY: pointer and length are those of one slice that is lent for the call, and only read.
+    unsafe { virtio_video_pending_in_all(table.as_ptr(), table.len()) }
+}
+
+/// How many answers are pending to a stream, any number. Otherwise as [`pending_in_all`].
+pub fn pending_of_stream(table: &[u32], stream: u32) -> Pending {
+    // SAFETY: as in `pending_in_all`.
+    unsafe { virtio_video_pending_of_stream(table.as_ptr(), table.len(), stream) }
 }
 
 /// Checks a log that holds questions and answers, on a device of its own.

@@ -1,9 +1,9 @@
 //! The command core of a virtio-video decoder (device 31, version 0), for a host in Rust.
 //!
 //! A host hands a [`Decoder`] the commands that its guest sends and the reports of its decoding back
-//! end, and passes the answers on to the guest. The core behind it is an archive whose functions are
-//! proved against their definition; this package lends it memory, and reads what it answers. It has no
-//! dependencies.
+//! end, and passes the answers on to the guest. It may ask at any time how many answers are pending. The
+//! core behind it is an archive whose functions are proved against their definition; this package lends
+//! it memory, and reads what it answers. It has no dependencies.
 //!
 //! The module [`log`] is about logs of such commands, reports and answers, and checks those of other
 //! makers' devices. Beside the decoder stands a small virtio sound device, output only, from an archive of
@@ -92,6 +92,24 @@ pub struct Finish {
     pub timestamp: u64,
 }
 
+/// How many answers are pending, in all or to one stream: one for each buffer that is Queued, and one
+/// for each drain that is pending.
+#[derive(Clone, Copy, Debug, PartialEq, Eq)]
+pub struct Pending {
+    /// The figure.
+    pub pending: u32,
+    /// How many words of the table were read for it, at most 9.
+    pub words_read: u32,
+}
+
+impl Pending {
+    /// What a question said of a table of full length.
+    fn new(said: ffi::Pending) -> Self {
+        debug_assert_eq!(said.refusal, 0, "the table has its full length");
+        Pending { pending: said.pending, words_read: said.words_read }
+    }
+}
+
 /// A device: its table of 4,160 words, and a room for the answers of one step.
 ///
 /// The table is all that a device is. A copy of it ([`table`](Decoder::table)) is a saved device, and
@@ -113,7 +131,7 @@ impl Decoder {
     /// The device that these words stand for, which are those of an earlier [`table`](Decoder::table).
     ///
     /// Any words are taken. If they stand for no device, each step is refused with
-    /// [`Refusal::InvalidTable`].
+    /// [`Refusal::InvalidTable`], and the figures of pending answers are what the words hold.
     ///
     /// ```
     /// use virtio_video_decoder::{Decoder, Refusal};
@@ -294,6 +312,46 @@ impl Decoder {
     pub fn drained(&mut self, stream: u32) -> Result<Answers<'_>, Refusal> {
         let outcome = ffi::drained(self.table.as_mut_slice(), stream, self.room.as_mut_slice());
         self.answers(outcome)
+    }
+
+    /// How many answers are pending in all. One word of the table is read.
+    ///
+    /// ```
+    /// use virtio_video_decoder::{wire, Decoder, Pending, Refusal};
+    ///
+    /// # fn frame(words: &[u32], length: usize) -> Vec<u8> {
+    /// #     let mut bytes: Vec<u8> = words.iter().flat_map(|word| word.to_le_bytes()).collect();
+    /// #     bytes.resize(length, 0);
+    /// #     bytes
+    /// # }
+    /// let create = |stream| frame(&[wire::CMD_STREAM_CREATE, stream, 0, 0, wire::FORMAT_H264], 88);
+    /// let drain = |stream| frame(&[wire::CMD_STREAM_DRAIN, stream], 8);
+    /// let mut decoder = Decoder::new();
+    /// for stream in [7, 9] {
+    ///     decoder.command(stream, &create(stream))?;
+    ///     decoder.command(stream, &drain(stream))?;
+    /// }
+    /// assert_eq!(decoder.pending_in_all(), Pending { pending: 2, words_read: 1 });
+    /// decoder.drained(7)?;
+    /// assert_eq!(decoder.pending_in_all().pending, 1);
+    ///
+    /// // The places of streams are looked at in order, and stream 9 has the second.
+    /// assert_eq!(decoder.pending_of_stream(7), Pending { pending: 0, words_read: 2 });
+    /// assert_eq!(decoder.pending_of_stream(9), Pending { pending: 1, words_read: 3 });
+    /// assert_eq!(decoder.pending_of_stream(8), Pending { pending: 0, words_read: 8 });
+    /// # Ok::<(), Refusal>(())
+    /// ```
+    pub fn pending_in_all(&self) -> Pending {
+        Pending::new(ffi::pending_in_all(self.table.as_slice()))
+    }
+
+    /// How many answers are pending to a stream, any number; none where it is not there.
+    ///
+    /// Of the eight places of streams one word each is read, in order, until the stream is found, and
+    /// then its figure; 8 words where it is not there. [`pending_in_all`](Decoder::pending_in_all) has
+    /// an example.
+    pub fn pending_of_stream(&self, stream: u32) -> Pending {
+        Pending::new(ffi::pending_of_stream(self.table.as_slice(), stream))
     }
 
     /// What a step wrote into the room, or why it was refused.

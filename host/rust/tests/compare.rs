@@ -1,10 +1,11 @@
 //! The core compared with the independent device: each result, each byte of the room and each word
 //! of the table, on seeded random steps, on each stream number and on tables with each word made
-//! wrong. `STEPS` sets the number of random steps, `SEED` the first seed.
+//! wrong; and what is said of pending answers, on all of these and on any figures. `STEPS` sets the
+//! number of random steps, `SEED` the first seed.
 
 mod independent;
 
-use std::collections::BTreeSet;
+use std::collections::{BTreeMap, BTreeSet};
 use std::fmt;
 use std::time::Instant;
 
@@ -12,17 +13,23 @@ use independent::coverage::{name, Coverage, TABLE_NOT_VALID, TABLE_SHORT};
 use independent::device::*;
 use independent::frames;
 use independent::layout::{
-    self, Broken, BLOCK, DRAIN_AT, INPUT_AT, OUTPUT_AT, SPENT_AT, UNUSED_AT, WORDS,
+    self, Broken, BLOCK, DRAIN_AT, FIGURES_AT, INPUT_AT, MARKS_AT, OUTPUT_AT, SPENT_AT, SPENT_END,
+    TOTAL_AT, UNUSED_AT, WORDS,
 };
 use independent::on_words::{Core, OnWords, Outcome};
-use independent::random::{Generator, Rng, ODD_WORDS};
-use independent::slips;
+use independent::pending::{by_records, by_words, Book, Question};
+use independent::pending_slips;
+use independent::random::{full, Generator, Rng, ODD_WORDS};
+use independent::random_figures::{all_questions, questions};
+use independent::slips::{self, Slip};
 use independent::UnderTest;
 
 /// Random steps of a run, and of one seed in it.
 const STEPS: u64 = 300_000;
 const STEPS_OF_A_SEED: u64 = 30_000;
 const SEED: u64 = 1;
+/// Tables of any figures that questions are asked of.
+const ASKED_TABLES: u64 = 100_000;
 
 #[test]
 fn random_steps_agree() {
@@ -60,13 +67,73 @@ fn each_number_is_spent_once() {
     }
 }
 
-/// The independent device's words are read back as the records they were written from.
+#[test]
+fn questions_agree() {
+    let start = Instant::now();
+    match compare_questions(&UnderTest::default(), variable("SEED", SEED), ASKED_TABLES) {
+        Err(mismatch) => panic!("{mismatch}"),
+        Ok(count) => println!(
+            "{count} questions, {ASKED_TABLES} tables, {:.1} s",
+            start.elapsed().as_secs_f64()
+        ),
+    }
+}
+
+/// Condition 3 covers a stream's figure: after a list of steps from a fresh table it is the one that
+/// the stream's own steps come to alone. The word count and the total are not covered.
+#[test]
+fn figures_are_those_of_the_alone_run() {
+    let core = UnderTest::default();
+    let (mut streams, mut pending) = (0, 0);
+    for seed in SEED..SEED + 100 {
+        let (table, own_steps) = list_of_steps(&core, seed);
+        for (&stream, steps) in &own_steps {
+            let mut alone = vec![0; WORDS];
+            for act in steps {
+                core.step(&mut alone, act, &mut [0; ROOM]);
+            }
+            let [among, alone] =
+                [&table, &alone].map(|table| core.pending_of_stream(table, stream).pending);
+            assert_eq!(among, alone, "seed {seed}, stream {stream}");
+            streams += 1;
+            pending += among;
+        }
+    }
+    println!("{streams} streams, {pending} answers pending");
+    assert!(pending > 500, "too little is pending at the end of the lists");
+}
+
+/// Random steps from a fresh table: the table that they leave, and the steps of each stream but for
+/// those whose creation found no place.
+fn list_of_steps(core: &impl Core, seed: u64) -> (Vec<u32>, BTreeMap<u32, Vec<Act>>) {
+    let mut generator = Generator::new(seed);
+    let (mut device, mut table) = (Device::default(), vec![0; WORDS]);
+    let (mut own_steps, mut crowded) = (BTreeMap::<u32, Vec<Act>>::new(), BTreeSet::new());
+    for _ in 0..generator.rng.within(50, 1000) {
+        let act = generator.act(&device);
+        let why = device.step(&act, ROOM).why;
+        core.step(&mut table, &act, &mut [0; ROOM]);
+        let Some(stream) = act.stream() else { continue };
+        if act.kind_and_queue().0 == STREAM_CREATE && why == Some("no place") {
+            crowded.insert(stream);
+        }
+        own_steps.entry(stream).or_default().push(act);
+    }
+    own_steps.retain(|stream, _| !crowded.contains(stream));
+    (table, own_steps)
+}
+
+/// The independent device's words are read back as the records they were written from, and give the
+/// figures that are got by going through these.
 #[test]
 fn layout_goes_round() {
     let mut generator = Generator::new(7);
     for _ in 0..2000 {
         let device = generator.lent();
         let table = generator.table(&device);
+        for question in all_questions(&table) {
+            assert_eq!(by_words(&table, question), by_records(&device, question), "{question:?}");
+        }
         assert_eq!(layout::read(&table[..WORDS], None), Ok(device));
     }
 }
@@ -96,6 +163,20 @@ fn slips_are_caught() {
     let (count, left_out) = (slips.len(), remembering.len());
     println!("{count} slips, {left_out} left out, {:.1} s", start.elapsed().as_secs_f64());
     assert!(missed.is_empty(), "slips not caught:\n{}", missed.join("\n"));
+}
+
+/// Each slip of the questions is caught on any figures, and the device without one passes.
+#[test]
+fn slips_of_questions_are_caught() {
+    let compare = |slip| compare_questions(&OnWords(slip), SEED, ASKED_TABLES / 10);
+    if let Err(mismatch) = compare(None) {
+        panic!("without a slip: {mismatch}");
+    }
+    let slips = pending_slips::of_questions().into_iter().map(Slip::Pending);
+    let slips: Vec<Slip> = slips.chain(slips::of_short_questions()).collect();
+    let missed: Vec<&Slip> = slips.iter().filter(|&&slip| compare(Some(slip)).is_ok()).collect();
+    println!("{} slips", slips.len());
+    assert!(missed.is_empty(), "slips not caught: {missed:x?}");
 }
 
 /// Where a core and the independent device part.
@@ -129,7 +210,7 @@ fn compare_steps(
             break;
         }
         let now = STEPS_OF_A_SEED.min(steps - done);
-        let mut run = Run { core, generator: Generator::new(seed), coverage, seed, step: 0, done };
+        let mut run = Run::new(core, seed, coverage, done);
         while run.step < now {
             run.table_of_its_own(now)?;
         }
@@ -147,9 +228,18 @@ struct Run<'r, C> {
     /// Steps of this seed, and of the seeds before it.
     step: u64,
     done: u64,
+    /// What is pending on the table at hand.
+    book: Book,
+    /// The questions have numbers of their own, so that they do not change the steps.
+    asking: Rng,
 }
 
-impl<C: Core> Run<'_, C> {
+impl<'r, C: Core> Run<'r, C> {
+    fn new(core: &'r C, seed: u64, coverage: &'r mut Coverage, done: u64) -> Run<'r, C> {
+        let (generator, asking) = (Generator::new(seed), Rng::new(!seed));
+        Run { core, generator, coverage, seed, step: 0, done, book: Book::default(), asking }
+    }
+
     /// Some hundred steps on one table, which is made fresh or lent with records in it. The
     /// independent side keeps the records themselves from step to step.
     fn table_of_its_own(&mut self, last: u64) -> Result<(), Mismatch> {
@@ -159,7 +249,7 @@ impl<C: Core> Run<'_, C> {
             device = self.generator.lent();
             table = self.generator.table(&device);
         }
-        self.start_table(&Spent::default());
+        self.start_table(&Spent::default(), &device);
         let steps = self.generator.rng.within(100, 1500) as u64;
         let end = last.min(self.step + steps);
         while self.step < end || self.step < last && self.generator.has_plan() {
@@ -171,7 +261,7 @@ impl<C: Core> Run<'_, C> {
             let act = self.generator.act(&device);
             let edge = self.generator.edge;
             // Reports are rarer than commands.
-            let odd = if matches!(act, Act::Command { .. }) { 8 } else { 20 };
+            let odd = if matches!(act, Act::Command { .. }) { 12 } else { 25 };
             if self.generator.rng.percent(odd) {
                 self.odd_step(&table, &device, &act)?;
             }
@@ -180,8 +270,9 @@ impl<C: Core> Run<'_, C> {
         Ok(())
     }
 
-    /// Another table, or the same one made fresh after these numbers were spent.
-    fn start_table(&mut self, forgotten: &Spent) {
+    /// Another table, or the same one made fresh after these numbers were spent, with these records.
+    fn start_table(&mut self, forgotten: &Spent, device: &Device) {
+        self.book = Book::of(device);
         self.generator.start_anew(forgotten);
         self.coverage.start_table(forgotten.clone());
     }
@@ -201,8 +292,8 @@ impl<C: Core> Run<'_, C> {
         let part = self.generator.short_length();
         self.make_fresh(&mut table[..part])?;
         self.make_fresh(table)?;
-        self.start_table(&device.spent);
-        *device = Device::default();
+        let before = std::mem::take(device);
+        self.start_table(&before.spent, device);
         Ok(())
     }
 
@@ -256,11 +347,12 @@ impl<C: Core> Run<'_, C> {
         self.coverage.count(act, &done, edge);
         self.coverage.count_before(&before, act, &done);
         self.coverage.count_depth(device, &done.written, table.len());
-        Ok(())
+        self.book.note(act, &done);
+        self.ask_by_book(table, act)
     }
 
-    /// The step on a copy of the table that is cut short or spoiled by one word (and may then still
-    /// be valid), or with a room that is too short, or with more than one of these.
+    /// The step on a copy of the table that is cut short or spoiled (and may then still be valid), or
+    /// with a room that is too short, or with more than one of these.
     fn odd_step(&mut self, table: &[u32], device: &Device, act: &Act) -> Result<(), Mismatch> {
         let rng = &mut self.generator.rng;
         let (cut, spoiled, short) = (rng.percent(25), rng.percent(60), rng.percent(40));
@@ -280,18 +372,18 @@ impl<C: Core> Run<'_, C> {
         Ok(())
     }
 
-    /// The step on both sides: result, room and table have to be the same. `device` are the table's
-    /// records, if it is valid.
+    /// The step on both sides: result, room and table have to be the same, and what is said of pending
+    /// answers after it. `device` are the table's records, if it is valid.
     fn compare(
         &mut self,
         table: &mut [u32],
-        device: Option<&mut Device>,
+        mut device: Option<&mut Device>,
         act: &Act,
         room: &mut Room,
     ) -> Result<Done, Mismatch> {
         let mut expected_table = table.to_vec();
         let mut expected_room = room.bytes.clone();
-        let done = expect(&mut expected_table, device, act, room.lent().len());
+        let done = expect(&mut expected_table, device.as_deref_mut(), act, room.lent().len());
         expected_room[room.start..][..done.written.len()].copy_from_slice(&done.written);
 
         let outcome = self.core.step(table, act, room.lent());
@@ -309,7 +401,43 @@ impl<C: Core> Run<'_, C> {
         if let Some(what) = difference("word", table, &expected_table) {
             return Err(self.mismatch(act, what));
         }
+        self.ask(table, &expected_table, device.as_deref(), act)?;
         Ok(done)
+    }
+
+    /// Asks some questions of the core's table after a step, and of `expected`, the independent
+    /// device's. `device` are its records, if it is valid. The core's table has to stay.
+    fn ask(
+        &mut self,
+        table: &[u32],
+        expected: &[u32],
+        device: Option<&Device>,
+        act: &Act,
+    ) -> Result<(), Mismatch> {
+        let device = device.filter(|_| expected.len() >= WORDS);
+        for question in questions(&mut self.asking, expected, act) {
+            self.coverage.count_question(expected, device, question);
+            if let Some(what) = ask(self.core, table, expected, device, question) {
+                return Err(self.mismatch(act, what));
+            }
+        }
+        match difference("word", table, expected) {
+            Some(what) => Err(self.mismatch(&"questions", what)),
+            None => Ok(()),
+        }
+    }
+
+    /// After a step, the total and the figure of its stream are those of the book.
+    fn ask_by_book(&mut self, table: &[u32], act: &Act) -> Result<(), Mismatch> {
+        let own = act.stream().map(Question::OfStream);
+        for question in own.into_iter().chain([Question::InAll]) {
+            let (said, figure) = (self.core.ask(table, question), self.book.figure(question));
+            if said.pending != figure {
+                let what = format!("{question:x?}: {said:?}, by the book {figure}");
+                return Err(self.mismatch(act, what));
+            }
+        }
+        Ok(())
     }
 
     fn mismatch(&self, act: &impl fmt::Debug, what: String) -> Mismatch {
@@ -321,6 +449,22 @@ impl<C: Core> Run<'_, C> {
             what,
         }
     }
+}
+
+/// What is wrong with the answer to a question: it is not that of these words, or not that of the
+/// table's records, if it is valid.
+fn ask(
+    core: &impl Core,
+    table: &[u32],
+    words: &[u32],
+    device: Option<&Device>,
+    question: Question,
+) -> Option<String> {
+    let said = core.ask(table, question);
+    let by_records = device.map(|device| by_records(device, question));
+    let expected = [Some(by_words(words, question)), by_records];
+    let wrong = expected.into_iter().flatten().find(|&expected| expected != said)?;
+    Some(format!("{question:x?}: {said:?}, expected {wrong:?}"))
 }
 
 /// What the step is to come to with so much room, made on this copy of the table.
@@ -379,18 +523,13 @@ fn difference<T: PartialEq + fmt::LowerHex>(
 /// Each stream number, and some that none can be, on a table where it alone is spent, and on one
 /// where all but it are. Returns the number of steps.
 fn compare_numbers(core: &impl Core) -> Result<u64, Mismatch> {
-    let mut run = Run {
-        core,
-        generator: Generator::new(SEED),
-        coverage: &mut Coverage::default(),
-        seed: SEED,
-        step: 0,
-        done: 0,
-    };
+    let mut coverage = Coverage::default();
+    let mut run = Run::new(core, SEED, &mut coverage, 0);
     for number in (0..1100).chain([2047, 2048, 0x0001_0005, 0x8000_0005, u32::MAX]) {
         for alone in [true, false] {
             let mut device = Device::default();
             device.spent.extend(numbers().filter(|&other| (other == number) == alone));
+            run.book = Book::of(&device);
             let mut table = run.generator.table(&device);
             run.life(&mut table, &mut device, number)?;
         }
@@ -398,8 +537,36 @@ fn compare_numbers(core: &impl Core) -> Result<u64, Mismatch> {
     Ok(run.step)
 }
 
-/// Each of the 4,160 words of some valid tables set to each odd word and some more: the core takes
-/// the table exactly where the rules of docs/LAYOUT.md do. Returns the number of tables tried.
+/// Questions on tables of any figures and of each length beside an edge: many questions for each.
+/// Returns their number.
+fn compare_questions(core: &impl Core, seed: u64, tables: u64) -> Result<u64, Mismatch> {
+    let lengths = [WORDS, WORDS, WORDS, WORDS + 1, WORDS + 600, WORDS - 1, UNUSED_AT, MARKS_AT, 0];
+    let mut generator = Generator::new(seed);
+    let (mut count, mut table) = (0, Vec::new());
+    for step in 0..tables {
+        if step % 100 == 0 {
+            let device = generator.lent();
+            table = generator.table(&device);
+            table.resize(WORDS + 600, generator.rng.word());
+        }
+        generator.any_figures(&mut table);
+        let lent = &table[..generator.rng.pick(&lengths)];
+        let before = lent.to_vec();
+        for question in all_questions(&table) {
+            count += 1;
+            let wrong = ask(core, lent, &before, None, question);
+            if let Some(what) = wrong.or_else(|| difference("word", lent, &before)) {
+                let act = format!("{} words, {:x?}", lent.len(), &table[SPENT_END..UNUSED_AT]);
+                return Err(Mismatch { seed, step, step_of_run: step, act, what });
+            }
+        }
+    }
+    Ok(count)
+}
+
+/// Each of the 4,160 words of some valid tables set to each odd word and some more, and where the
+/// figures of pending answers follow from it, the same with these following: the core takes the table
+/// exactly where the rules of docs/LAYOUT.md do. Returns the number of tables tried.
 fn compare_tables(core: &impl Core, seed: u64) -> Result<u64, Mismatch> {
     let (rules, met) = (BTreeSet::new(), BTreeSet::new());
     let mut probes = Probes { core, seed, rng: Rng::new(seed), count: 0, rules, met };
@@ -435,12 +602,41 @@ enum Way {
     QueueHead(usize, u32),
     /// This word without use is not zero.
     Unused(usize),
+    /// This word of the figures of pending answers is changed so.
+    Figure(usize, Change),
     /// The bit of a live number is dropped.
     BitDropped,
     /// A live number is changed to one of at most 1,023 that is not spent.
     LowNumber,
     /// A live number is changed to one above 1,023.
     HighNumber,
+}
+
+/// How a word of the figures of pending answers is changed.
+#[derive(Clone, Copy, Debug, PartialEq, Eq, PartialOrd, Ord)]
+enum Change {
+    Zero,
+    OneMore,
+    OneLess,
+    /// A mark or figure to that of another place, the total to a figure.
+    Anothers,
+    Highest,
+}
+
+impl Change {
+    /// The changes of a word from what was kept there, each with the value that it makes.
+    fn all(table: &[u32], at: usize, kept: u32) -> Vec<(Change, u32)> {
+        let alike = if (MARKS_AT..FIGURES_AT).contains(&at) { MARKS_AT } else { FIGURES_AT };
+        let others = (alike..alike + PLACES).filter(|&other| other != at);
+        let others = others.map(|other| (Change::Anothers, table[other]));
+        let changes = [
+            (Change::Zero, 0),
+            (Change::OneMore, kept.wrapping_add(1)),
+            (Change::OneLess, kept.wrapping_sub(1)),
+            (Change::Highest, u32::MAX),
+        ];
+        changes.into_iter().chain(others).collect()
+    }
 }
 
 impl Way {
@@ -472,9 +668,13 @@ impl Way {
         let heads = [INPUT_AT, OUTPUT_AT]
             .into_iter()
             .flat_map(|at| [1, 2, u32::MAX].map(|value| Way::QueueHead(at, value)));
-        let unused = (UNUSED_AT..WORDS).map(Way::Unused);
+        let unused = (UNUSED_AT..WORDS).chain([SPENT_END]).map(Way::Unused);
         let numbers = [Way::BitDropped, Way::LowNumber, Way::HighNumber];
-        drains.chain(heads).chain(unused).chain(numbers)
+        let changes =
+            [Change::Zero, Change::OneMore, Change::OneLess, Change::Anothers, Change::Highest];
+        let figures =
+            (TOTAL_AT..UNUSED_AT).flat_map(move |at| changes.map(|change| Way::Figure(at, change)));
+        drains.chain(heads).chain(unused).chain(numbers).chain(figures)
     }
 }
 
@@ -486,45 +686,94 @@ impl<C: Core> Probes<'_, C> {
         let mut refused = vec![true; WORDS];
         for at in 0..WORDS {
             let kept = table[at];
-            let more = [
-                0x0001_0001,
-                0x8000_0002,
-                self.rng.word() | 1,
-                kept ^ 1 << self.rng.below(32),
-                kept.wrapping_add(1024),
-                table[self.rng.below(WORDS)],
-            ];
-            for (turn, value) in ODD_WORDS.into_iter().chain(more).enumerate() {
+            for (turn, value) in self.values(&table, at).into_iter().enumerate() {
                 if value == kept {
                     continue;
                 }
                 table[at] = value;
                 // Over the places, each value of a block's word meets each kind of step.
-                let kind = KINDS[(turn + at / BLOCK) % 3];
-                let way = match self.lend(&table, at, kind)? {
-                    Ok(_) => {
-                        refused[at] = false;
-                        Way::good(at, value)
-                    }
-                    Err(rule) => {
-                        self.rules.insert(rule);
-                        Way::of(rule, at, value)
-                    }
-                };
-                self.met.extend(way.map(|way| (way, kind)));
+                let kind = (turn + at / BLOCK) % 3;
+                let kinds = if at < SPENT_END { &KINDS[kind..=kind] } else { &KINDS };
+                for &kind in kinds {
+                    refused[at] &= self.refuses(&table, at, kept, kind)?;
+                }
             }
             table[at] = kept;
         }
         let unused = layout::without_use(device);
         assert!(unused.iter().all(|&at| refused[at]), "a word without use was taken");
+        let figures = &refused[TOTAL_AT..UNUSED_AT];
+        assert!(figures.iter().all(|&refused| refused), "a figure that does not follow was taken");
         if device.streams().next().is_none() {
-            assert!(!refused[SPENT_AT..UNUSED_AT].contains(&true), "any numbers may be spent");
+            assert!(!refused[SPENT_AT..SPENT_END].contains(&true), "any numbers may be spent");
         }
         Ok(())
     }
 
-    /// Lends a table in which this word was changed, to a step that is refused anyway. Returns what
-    /// the table stands for.
+    /// The values that a word is set to.
+    fn values(&mut self, table: &[u32], at: usize) -> Vec<u32> {
+        let kept = table[at];
+        let more = [
+            0x0001_0001,
+            0x8000_0002,
+            self.rng.word() | 1,
+            kept ^ 1 << self.rng.below(32),
+            kept.wrapping_add(1024),
+            table[self.rng.below(WORDS)],
+        ];
+        let mut values = [&ODD_WORDS[..], &more].concat();
+        if at >= SPENT_END {
+            values.extend(Change::all(table, at, kept).into_iter().map(|change| change.1));
+        }
+        values
+    }
+
+    /// Whether a table in which this word was changed is refused, also with the figures of pending
+    /// answers following, if they do.
+    fn refuses(
+        &mut self,
+        table: &[u32],
+        at: usize,
+        kept: u32,
+        kind: u32,
+    ) -> Result<bool, Mismatch> {
+        let refused = self.refuses_words(table, at, kept, kind)?;
+        if at >= SPENT_AT || table[TOTAL_AT..UNUSED_AT] == layout::settled(table) {
+            return Ok(refused);
+        }
+        let mut follows = table.to_vec();
+        layout::settle(&mut follows);
+        Ok(self.refuses_words(&follows, at, kept, kind)? && refused)
+    }
+
+    /// Whether these words are refused, and notes what was met with them.
+    fn refuses_words(
+        &mut self,
+        table: &[u32],
+        at: usize,
+        kept: u32,
+        kind: u32,
+    ) -> Result<bool, Mismatch> {
+        let value = table[at];
+        let read = self.lend(table, at, kind)?;
+        let ways = match read {
+            Ok(_) => Vec::from_iter(Way::good(at, value)),
+            Err(Broken::Total | Broken::Mark | Broken::Figure) if at >= SPENT_END => {
+                let changes = Change::all(table, at, kept).into_iter();
+                changes
+                    .filter(|change| change.1 == value)
+                    .map(|change| Way::Figure(at, change.0))
+                    .collect()
+            }
+            Err(rule) => Vec::from_iter(Way::of(rule, at, value)),
+        };
+        self.rules.extend(read.as_ref().err());
+        self.met.extend(ways.into_iter().map(|way| (way, kind)));
+        Ok(read.is_err())
+    }
+
+    /// Lends a table in which this word was changed, to a step that is refused anyway, and asks for
+    /// pending answers. Returns what the table stands for.
     fn lend(
         &mut self,
         table: &[u32],
@@ -538,8 +787,14 @@ impl<C: Core> Probes<'_, C> {
         let mut lent = table.to_vec();
         let mut room = [0xa5; ROOM];
         let outcome = self.core.step(&mut lent, &act, &mut room);
+        let mark = table[MARKS_AT + self.count as usize % PLACES];
+        let numbers = [mark, table[at]].map(|mark| Question::OfStream(mark.wrapping_sub(1)));
+        let wrong = numbers
+            .into_iter()
+            .chain([Question::InAll])
+            .find_map(|question| ask(self.core, &lent, table, read.as_ref().ok(), question));
         let unchanged = lent == table && room == [0xa5; ROOM];
-        if outcome == expected && unchanged {
+        if outcome == expected && wrong.is_none() && unchanged {
             return Ok(read);
         }
         Err(Mismatch {
@@ -548,7 +803,7 @@ impl<C: Core> Probes<'_, C> {
             step_of_run: self.count,
             act: format!("word {at} set to {:#x}, {act:x?}", table[at]),
             what: format!(
-                "{outcome:?}, expected {expected:?} ({:?}), unchanged {unchanged}",
+                "{outcome:?}, expected {expected:?} ({:?}), {wrong:?}, unchanged {unchanged}",
                 read.map(|_| "valid")
             ),
         })
@@ -610,24 +865,6 @@ fn tables_to_spoil(seed: u64) -> Vec<Device> {
         }
     }
     devices
-}
-
-/// A table with every place taken and every resource Queued, and these drains by stream number.
-fn full(drain: impl Fn(u32) -> Option<u32>) -> Device {
-    let mut full = Device::default();
-    for (number, place) in numbers().rev().zip(&mut full.places) {
-        full.spent.add(number);
-        let mut stream = Stream::new(number, 0x1003);
-        stream.drain = drain(number);
-        for queue in [&mut stream.input, &mut stream.output] {
-            for (number, slot) in queue.resources.iter_mut().enumerate() {
-                let state = State::Queued { ticket: 8, timestamp: u64::MAX };
-                *slot = Some(Resource { number: number as u32, state });
-            }
-        }
-        *place = Some(stream);
-    }
-    full
 }
 
 fn variable(name: &str, default: u64) -> u64 {

@@ -7,6 +7,7 @@ use independent::device::*;
 use independent::frames::*;
 use independent::layout::{BLOCK, INPUT_AT, OUTPUT_AT, SPENT_AT, WORDS};
 use independent::on_words::{Core, OnWords, Outcome};
+use independent::pending::Pending;
 use independent::UnderTest;
 
 const MPEG2: u32 = 0x1000;
@@ -135,9 +136,62 @@ impl<C: Core + Default> Host<C> {
         assert_eq!(self.command(1, &frame(STREAM_DESTROY, number, 8)), ok(1, number));
     }
 
-    /// The words behind the blocks: those of the spent numbers, and those without use.
+    /// The words behind the blocks: those of the spent numbers, the figures of pending answers from the
+    /// 33rd on, and those without use.
     fn behind(&self) -> &[u32] {
         &self.table[4096..4160]
+    }
+
+    /// Puts into the table that so many answers are pending, all to the stream in the first place.
+    fn put_pending(&mut self, figure: u32) {
+        self.table[4129] = figure;
+        self.table[4138] = figure;
+    }
+
+    /// Puts another number into the record of the stream in the first place, with its mark.
+    fn put_number(&mut self, number: u32) {
+        self.table[1] = number;
+        self.table[4130] = number.wrapping_add(1);
+    }
+
+    /// What is said of all pending answers, as refusal, figure and words read. The table stays.
+    fn in_all(&self) -> [u32; 3] {
+        let before = self.table.clone();
+        let said = numbers_of(self.core.pending_in_all(&self.table));
+        assert_eq!(self.table, before);
+        said
+    }
+
+    /// The same of those to a stream.
+    fn of_stream(&self, stream: u32) -> [u32; 3] {
+        let before = self.table.clone();
+        let said = numbers_of(self.core.pending_of_stream(&self.table, stream));
+        assert_eq!(self.table, before);
+        said
+    }
+
+    /// So many answers are pending in all, and so many to stream 7 in the first place.
+    fn owes(&self, total: u32, figure: u32) {
+        assert_eq!(self.in_all(), [0, total, 1]);
+        assert_eq!(self.of_stream(7), [0, figure, 2]);
+        assert_eq!([self.table[4129], self.table[4130], self.table[4138]], [total, 8, figure]);
+    }
+
+    /// Nothing is pending to these numbers, which are those of no stream.
+    fn unknown(&self, numbers: &[u32]) {
+        for &number in numbers {
+            assert_eq!(self.of_stream(number), [0, 0, 8], "{number}");
+        }
+    }
+
+    /// Creates resources of any stream, so many in a queue, and queues them.
+    fn fill(&mut self, stream: u32, queue_type: u32, count: u32) {
+        for number in 0..count {
+            let import = resource_create(stream, queue_type, number, &[1], &[(0, 1)]);
+            assert_eq!(self.command(1, &import), ok(1, stream));
+            let queue = resource_queue(stream, queue_type, number, 5, 0);
+            assert_eq!(self.command(number, &queue), Ok(vec![]));
+        }
     }
 
     /// The step is refused with 2 and changes nothing while word 0 of a queue of stream 7, in the
@@ -242,6 +296,10 @@ fn answered(outcome: Outcome, room: &[u8]) -> Answered {
         rest = more;
     }
     Ok(answers)
+}
+
+fn numbers_of(said: Pending) -> [u32; 3] {
+    [said.refusal, said.pending, said.words_read]
 }
 
 fn ok(ticket: u32, stream: u32) -> Answered {
@@ -630,9 +688,11 @@ cases! {
             for state in 1..=3 {
                 host.table[at] = state;
                 host.table[at + 1] = 3;
+                host.put_pending(if state == 2 { 2 } else { 1 });
                 host.not_drained();
             }
             host.table[at..at + 2].fill(0);
+            host.put_pending(1);
         }
         assert_eq!(host.drained(7), ok(10, 7));
     }
@@ -656,7 +716,7 @@ cases! {
     }
 
     /// A finish with EOS answers its buffer and then the drain: 48 bytes. The room behind them stays,
-    /// and of the table nothing changes but the buffer's words and the drain's.
+    /// and of the table nothing changes but the buffer's words, the drain's and the figures.
     fn bytes_and_words_of_the_last_output(host: with_stream) {
         for queue_type in [INPUT, OUTPUT] {
             for number in [4, 5] {
@@ -672,6 +732,10 @@ cases! {
             let mut table = host.table.clone();
             table[3..5].fill(0);
             table[OUTPUT_AT + 4..][..5].copy_from_slice(&[3, 4, 0, 0, 0]);
+            // Of three pending answers that to the other output is left.
+            for at in [4129, 4138] {
+                assert_eq!(std::mem::replace(&mut table[at], 1), 3);
+            }
             let timestamp = 0x0123_4567_89ab_cdef;
             let report = Report { stream: 7, queue_type: OUTPUT, resource: 4, flags, timestamp };
             let mut room = [0xee; ROOM + 8];
@@ -744,6 +808,7 @@ cases! {
                 host.table[at] = state;
                 host.table[at + 1] = 3;
                 if state == 2 {
+                    host.put_pending(3);
                     host.not_finished(OUTPUT, 3, 2, 5);
                 } else {
                     assert_eq!(host.finish(7, OUTPUT, 3, 2, 6), last(9, 6, 2, 10));
@@ -947,6 +1012,7 @@ cases! {
     fn drain_words_of_a_table(host: with_stream) {
         for ticket in [0, 1, u32::MAX] {
             host.table[4] = ticket;
+            host.put_pending(1);
             for word in [2, 3, 4, 0x0001_0001, 0x8000_0000, 0x8000_0001, u32::MAX] {
                 host.table[3] = word;
                 host.invalid();
@@ -1146,14 +1212,17 @@ cases! {
     }
 
     /// Each number once, and no ninth place is asked for: its creation sets bit n % 32 of word
-    /// 4,096 + n / 32 and no other. Then no creation is left, until the table is made fresh.
+    /// 4,096 + n / 32 and no other, and marks its place by n + 1 while it lives. Then no creation is left,
+    /// until the table is made fresh.
     fn every_number_once(host: new) {
         let mut spent = [0; 64];
         for number in 0..1024 {
             host.create([number]);
             spent[number as usize / 32] |= 1 << (number % 32);
+            spent[34] = number + 1;
             assert_eq!(host.behind(), spent);
             host.destroy(number);
+            spent[34] = 0;
             assert_eq!(host.behind(), spent);
         }
         assert!(host.table[..4096].iter().all(|&word| word == 0));
@@ -1297,7 +1366,7 @@ cases! {
             host.table[at] ^= bit;
         }
         // Another number in place of that of the first stream: good where it is spent.
-        host.table[1] = 8;
+        host.put_number(8);
         host.invalid();
         host.table[4096] |= 1 << 8;
         host.valid();
@@ -1312,13 +1381,13 @@ cases! {
                 *word = spent;
             }
             for number in [1024, 1024 + 7, 2047, 0x0001_0007, 0x8000_0007, u32::MAX] {
-                host.table[1] = number;
+                host.put_number(number);
                 host.invalid();
             }
-            host.table[1] = 7;
+            host.put_number(7);
             host.valid();
         }
-        host.table[1] = 1023;
+        host.put_number(1023);
         host.valid();
     }
 
@@ -1341,12 +1410,14 @@ cases! {
         }
         host.create([500]);
         assert_eq!(host.behind()[..32], [u32::MAX; 32]);
-        assert_eq!(host.behind()[32..], [0; 32]);
+        let mut behind = [0; 32];
+        behind[2] = 501;
+        assert_eq!(host.behind()[32..], behind);
     }
 
-    /// Words 4,128 to 4,159 have no use: where one is not zero, the table is invalid.
+    /// Words 4,128 and 4,146 to 4,159 have no use: where one is not zero, the table is invalid.
     fn words_behind_the_spent_numbers(host: with_stream) {
-        for at in 4128..4160 {
+        for at in [4128].into_iter().chain(4146..4160) {
             for value in [1, 1 << 7, 1 << 31, u32::MAX] {
                 host.table[at] = value;
                 host.invalid();
@@ -1403,6 +1474,309 @@ cases! {
             assert!(host.table[..4160].iter().all(|&word| word == 0));
             assert_eq!(host.table[4160..], behind);
         }
+    }
+
+    /// Each queueing and each drain that is accepted is pending until it is answered; steps that are
+    /// not taken change nothing.
+    fn pending_answers_of_a_stream(host: with_stream) {
+        host.owes(0, 0);
+        for (number, figure) in [(1, 1), (2, 3)] {
+            host.resource(INPUT, number);
+            host.resource(OUTPUT, number);
+            host.owes(figure - 1, figure - 1);
+            host.queue(10, INPUT, number, 5);
+            host.owes(figure, figure);
+            host.queue(20, OUTPUT, number, 5);
+            host.owes(figure + 1, figure + 1);
+        }
+        host.drain(30);
+        host.owes(5, 5);
+        for command in [
+            frame(STREAM_DRAIN, 7, 8),
+            resource_queue(7, INPUT, 1, 5, 0),
+            resource_queue(7, OUTPUT, 1, 5, 0),
+            resource_queue(7, OUTPUT, 3, 5, 0),
+            on_queue(RESOURCE_DESTROY_ALL, 7, INPUT),
+            stream_create(7, MPEG2, b""),
+        ] {
+            assert!(host.command(3, &command).is_ok());
+            host.owes(5, 5);
+        }
+        host.not_drained();
+        host.not_finished(OUTPUT, 1, 2, 5);
+        host.not_finished(INPUT, 3, 0, 5);
+        let mut room = [0; ROOM - 1];
+        let clear = on_queue(QUEUE_CLEAR, 7, INPUT);
+        assert_eq!(host.core.command(&mut host.table, 3, &clear, &mut room).refusal, 3);
+        host.owes(5, 5);
+    }
+
+    /// A finish answers one, and with EOS two; a drained report one.
+    fn what_reports_leave_pending(host: with_stream) {
+        host.fill(7, INPUT, 3);
+        host.fill(7, OUTPUT, 3);
+        host.drain(30);
+        host.owes(7, 7);
+        for (queue_type, resource, flags, left) in
+            [(INPUT, 0, 0, 6), (OUTPUT, 1, 1, 5), (INPUT, 1, 1, 4), (INPUT, 2, 0, 3), (OUTPUT, 0, 2, 1)]
+        {
+            assert!(host.finish(7, queue_type, resource, flags, 6).is_ok());
+            host.owes(left, left);
+        }
+        host.drain(31);
+        assert_eq!(host.finish(7, OUTPUT, 2, 3, 6), last(2, 6, 3, 31));
+        host.owes(0, 0);
+        host.destroy_all(OUTPUT);
+        host.drain(32);
+        host.owes(1, 1);
+        assert_eq!(host.drained(7), ok(32, 7));
+        host.owes(0, 0);
+    }
+
+    /// A clear answers all of its queue, and for input the drain; a destruction all that is left, and the
+    /// stream is then unknown.
+    fn what_stops_leave_pending(host: with_stream) {
+        host.fill(7, INPUT, 3);
+        host.fill(7, OUTPUT, 2);
+        host.drain(30);
+        host.owes(6, 6);
+        for (queue_type, left) in [(OUTPUT, 4), (OUTPUT, 4), (INPUT, 0), (INPUT, 0)] {
+            assert!(host.command(3, &on_queue(QUEUE_CLEAR, 7, queue_type)).is_ok());
+            host.owes(left, left);
+        }
+        host.queue(20, OUTPUT, 1, 5);
+        host.drain(31);
+        host.clear(INPUT, Some(31));
+        host.owes(1, 1);
+        host.queue(10, INPUT, 1, 5);
+        host.drain(32);
+        host.owes(3, 3);
+        assert!(host.command(3, &frame(STREAM_DESTROY, 7, 8)).is_ok());
+        assert_eq!(host.in_all(), [0, 0, 1]);
+        host.unknown(&[7]);
+        assert_eq!(host.behind()[32..], [0; 32]);
+    }
+
+    /// A stream in place k takes k + 2 words, vacant places before it included; an unknown one 8. A
+    /// new stream is looked for in the lowest place that was vacant.
+    fn words_read_by_place(host: new) {
+        let numbers = [7, 0, 1023, 5, 31, 32, 9, 1];
+        host.create(numbers);
+        for gone in [None, Some(0), Some(3), Some(7)] {
+            if let Some(place) = gone {
+                host.destroy(numbers[place]);
+                host.unknown(&[numbers[place]]);
+            }
+            for (words, number) in (2..).zip(numbers) {
+                if host.table[BLOCK * (words as usize - 2)] == 1 {
+                    assert_eq!(host.of_stream(number), [0, 0, words]);
+                }
+            }
+        }
+        for (number, words) in [(100, 2), (101, 5), (102, 9)] {
+            host.unknown(&[number]);
+            host.create([number]);
+            assert_eq!(host.command(1, &frame(STREAM_DRAIN, number, 8)), Ok(vec![]));
+            assert_eq!(host.of_stream(number), [0, 1, words]);
+        }
+        assert_eq!(host.in_all(), [0, 3, 1]);
+        let behind = [101, 1, 1024, 102, 32, 33, 10, 103, 1, 0, 0, 1, 0, 0, 0, 1];
+        assert_eq!(host.table[4130..4146], behind);
+    }
+
+    /// A number of no live stream is owed nothing: one never used, one destroyed, one that none can
+    /// have. 2^32 - 1 is not found where a place is vacant.
+    fn unknown_streams(host: new) {
+        let never = [0, 1, 6, 8, 9, 1022, 1023, 1024, 1025, 1 << 31, u32::MAX - 1, u32::MAX];
+        host.unknown(&never);
+        host.unknown(&[7]);
+        for numbers in [7..8, 100..107] {
+            host.create(numbers);
+            host.unknown(&never);
+        }
+        host.fill(7, INPUT, 2);
+        host.unknown(&never);
+        host.owes(2, 2);
+        assert!(host.command(3, &frame(STREAM_DESTROY, 7, 8)).is_ok());
+        host.unknown(&never);
+        host.unknown(&[7]);
+    }
+
+    /// Eight streams with 16 inputs and 16 outputs Queued and a drain: 33 each, 264 in all.
+    fn all_that_can_be_pending(host: new) {
+        host.create(1016..1024);
+        for (place, number) in (1016..1024).enumerate() {
+            host.fill(number, INPUT, 16);
+            host.fill(number, OUTPUT, 16);
+            assert_eq!(host.of_stream(number), [0, 32, place as u32 + 2]);
+            assert_eq!(host.command(1, &frame(STREAM_DRAIN, number, 8)), Ok(vec![]));
+            assert_eq!(host.of_stream(number), [0, 33, place as u32 + 2]);
+            assert_eq!(host.in_all(), [0, 33 * (place as u32 + 1), 1]);
+        }
+        assert_eq!(host.in_all(), [0, 264, 1]);
+        assert_eq!(host.table[4138..4146], [33; 8]);
+        host.unknown(&[1015, 1024, u32::MAX]);
+        assert_eq!(host.finish(1023, OUTPUT, 15, 0, 6), Ok(vec![buffer(15, 1023, 6, 0)]));
+        assert_eq!([host.in_all(), host.of_stream(1023)], [[0, 263, 1], [0, 32, 9]]);
+        assert!(host.command(3, &frame(STREAM_DESTROY, 1016, 8)).is_ok());
+        assert_eq!(host.in_all(), [0, 230, 1]);
+        assert_eq!(host.table[4130..4132], [0, 1018]);
+        host.unknown(&[1016, u32::MAX]);
+    }
+
+    /// The figures of other streams stay, whatever is done to one, and each keeps its own.
+    fn pending_answers_of_other_streams(host: with_stream) {
+        host.create([8, 9]);
+        host.fill(8, INPUT, 2);
+        host.fill(9, OUTPUT, 3);
+        let others = |host: &Host<C>| [host.of_stream(8), host.of_stream(9)];
+        let kept = [[0, 2, 3], [0, 3, 4]];
+        assert_eq!(others(&host), kept);
+        host.fill(7, INPUT, 1);
+        host.fill(7, OUTPUT, 1);
+        host.drain(30);
+        host.owes(8, 3);
+        assert_eq!(others(&host), kept);
+        assert!(host.finish(7, INPUT, 0, 0, 6).is_ok());
+        host.owes(7, 2);
+        assert!(host.finish(7, OUTPUT, 0, 2, 6).is_ok());
+        host.owes(5, 0);
+        assert_eq!(others(&host), kept);
+        host.destroy(7);
+        assert_eq!(host.in_all(), [0, 5, 1]);
+        assert_eq!(others(&host), kept);
+    }
+
+    /// A word of the figures that does not follow from the blocks makes the table invalid: the total,
+    /// and of places live and vacant the mark and the figure.
+    fn figures_of_a_table(host: with_stream) {
+        host.create([0, 8, 9]);
+        host.destroy(0);
+        host.fill(8, INPUT, 2);
+        host.fill(9, OUTPUT, 16);
+        host.valid();
+        let kept: Vec<u32> = host.table[4129..4146].to_vec();
+        assert_eq!(kept, [18, 8, 0, 9, 10, 0, 0, 0, 0, 0, 0, 2, 16, 0, 0, 0, 0]);
+        for (at, word) in (4129..).zip(kept) {
+            let (less, more) = (word.wrapping_sub(1), word + 1);
+            let others = [0, 1, 2, 7, 8, 9, 16, 18, 33, 256 + word, 1024 + word, u32::MAX];
+            for value in others.into_iter().chain([less, more]).filter(|&value| value != word) {
+                host.table[at] = value;
+                host.invalid();
+            }
+            host.table[at] = word;
+        }
+        host.valid();
+    }
+
+    /// Figures that fit each other and not the blocks make it invalid too.
+    fn figures_that_fit_each_other(host: with_stream) {
+        host.create([8, 9]);
+        host.fill(8, INPUT, 2);
+        host.fill(9, OUTPUT, 3);
+        let right = host.table.clone();
+        for (changed, words) in [
+            ("another total, and a figure", &[(4129, 6), (4139, 3)][..]),
+            ("figures of the same sum", &[(4139, 1), (4140, 4)]),
+            ("figures turned", &[(4139, 3), (4140, 2)]),
+            ("marks turned", &[(4131, 10), (4132, 9)]),
+            ("places turned", &[(4131, 10), (4132, 9), (4139, 3), (4140, 2)]),
+            ("a figure in a vacant place", &[(4140, 0), (4141, 3)]),
+            ("a place moved", &[(4132, 0), (4133, 10), (4140, 0), (4141, 3)]),
+            ("a destroyed place", &[(4129, 2), (4132, 0), (4140, 0)]),
+            ("no figures", &[(4129, 0), (4130, 0), (4131, 0), (4132, 0), (4139, 0), (4140, 0)]),
+        ] {
+            for &(at, value) in words {
+                host.table[at] = value;
+            }
+            assert_ne!(host.table, right, "{changed}");
+            host.invalid();
+            host.table.clone_from(&right);
+        }
+        host.valid();
+    }
+
+    /// Other records with the figures that follow from them are valid; with the old ones they are not.
+    fn figures_follow_the_blocks(host: with_stream) {
+        let (input, output) = (INPUT_AT + 4 + 5 * 15, OUTPUT_AT + 4);
+        for (at, values) in [(3, [1, 0]), (input, [2, 3]), (output, [2, 1])] {
+            for (value, figure) in values.into_iter().zip([1, 0]) {
+                host.table[at] = value;
+                host.invalid();
+                host.put_pending(figure);
+                assert_eq!(host.of_stream(7), [0, figure, 2]);
+                assert!(host.command(1, &frame(QUERY_CONTROL, 7, 16)).is_ok());
+            }
+        }
+        host.table[1] = 6;
+        host.table[4096] |= 1 << 6;
+        host.invalid();
+        host.put_number(6);
+        host.valid();
+        host.unknown(&[7]);
+        assert_eq!(host.of_stream(6), [0, 0, 2]);
+    }
+
+    /// A question is served whatever the table is: it gives what the words hold. Of several places
+    /// with its mark the first counts, and the blocks are not looked at.
+    fn questions_on_an_invalid_table(host: with_stream) {
+        host.table[..4096].fill(0x5a5a_5a5a);
+        host.table[4129] = u32::MAX;
+        host.invalid();
+        assert_eq!(host.in_all(), [0, u32::MAX, 1]);
+        assert_eq!(host.of_stream(7), [0, 0, 2]);
+        host.unknown(&[0x5a5a_5a5a]);
+        let marks = [0, 8, 0, 1025, 8, u32::MAX, 1025, 0x5a5a_5a5b];
+        host.table[4130..4138].copy_from_slice(&marks);
+        host.table[4138..4146].copy_from_slice(&[1000, 1001, 1002, 1003, 1004, 1005, 1006, u32::MAX]);
+        for (number, figure, words) in [
+            (7, 1001, 3),
+            (1024, 1003, 5),
+            (u32::MAX - 1, 1005, 7),
+            (0x5a5a_5a5a, u32::MAX, 9),
+        ] {
+            assert_eq!(host.of_stream(number), [0, figure, words]);
+        }
+        host.unknown(&[0, 6, 8, 1023, 1025, u32::MAX - 2, u32::MAX]);
+        host.table[4130..4138].fill(0);
+        host.unknown(&[0, 7, u32::MAX]);
+        host.table[4130..4138].fill(u32::MAX);
+        host.unknown(&[0, 7, u32::MAX]);
+        assert_eq!(host.of_stream(u32::MAX - 1), [0, 1000, 2]);
+    }
+
+    /// A table of 4,159 words is refused with 1, whatever is in it; one of 4,160 or more is not.
+    fn questions_by_length(host: with_stream) {
+        host.drain(30);
+        host.table.resize(4160 + 600, 8);
+        for words in [0, 1, 4095, 4096, 4129, 4130, 4131, 4138, 4139, 4146, 4159] {
+            let table = &host.table[..words];
+            assert_eq!(numbers_of(host.core.pending_in_all(table)), [1, 0, 0]);
+            for number in [7, 8, u32::MAX] {
+                assert_eq!(numbers_of(host.core.pending_of_stream(table, number)), [1, 0, 0]);
+            }
+        }
+        for words in [4160, 4161, 4160 + 512, 4160 + 600] {
+            let table = &host.table[..words];
+            assert_eq!(numbers_of(host.core.pending_in_all(table)), [0, 1, 1]);
+            assert_eq!(numbers_of(host.core.pending_of_stream(table, 7)), [0, 1, 2]);
+            assert_eq!(numbers_of(host.core.pending_of_stream(table, 8)), [0, 0, 8]);
+        }
+    }
+
+    /// Making the table fresh leaves nothing pending, unless it is too short.
+    fn fresh_leaves_nothing_pending(host: with_stream) {
+        host.fill(7, INPUT, 2);
+        host.drain(30);
+        assert_eq!(host.core.fresh(&mut host.table[..4159]), 1);
+        host.owes(3, 3);
+        host.table[4128..4160].fill(u32::MAX);
+        assert_eq!(host.core.fresh(&mut host.table), 0);
+        assert_eq!(host.behind(), [0; 64]);
+        assert_eq!(host.in_all(), [0, 0, 1]);
+        host.unknown(&[7, u32::MAX - 1, u32::MAX]);
+        host.create([7]);
+        host.owes(0, 0);
     }
 
     /// "Tested 1, 3, 2, then 4".

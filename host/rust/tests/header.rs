@@ -1,4 +1,4 @@
-//! The C headers and the Rust constants say the same.
+//! The C headers, and the constants and declarations in Rust, say the same.
 
 use std::collections::HashMap;
 use std::fmt::Debug;
@@ -6,11 +6,15 @@ use virtio_video_decoder::log::Fault;
 use virtio_video_decoder::sound::State;
 use virtio_video_decoder::Refusal;
 
+fn text(file: &str) -> String {
+    let path = format!("{}/../../include/{file}", env!("CARGO_MANIFEST_DIR"));
+    std::fs::read_to_string(&path).expect(&path)
+}
+
 /// The numbers that a header gives to names: lines `#define NAME number` and `NAME = number,`.
 fn header(file: &str) -> HashMap<String, u64> {
-    let path = format!("{}/../../include/{file}", env!("CARGO_MANIFEST_DIR"));
-    let text = std::fs::read_to_string(&path).expect(&path);
-    text.lines()
+    text(file)
+        .lines()
         .filter_map(|line| {
             let mut words = line.split_whitespace();
             let (name, value) = match words.next()? {
@@ -27,12 +31,15 @@ fn header(file: &str) -> HashMap<String, u64> {
         .collect()
 }
 
+const VIDEO: &str = "virtio_video_decoder.h";
+const SOUND: &str = "virtio_sound_output.h";
+
 fn video() -> HashMap<String, u64> {
-    header("virtio_video_decoder.h")
+    header(VIDEO)
 }
 
 fn sound() -> HashMap<String, u64> {
-    header("virtio_sound_output.h")
+    header(SOUND)
 }
 
 /// Names of constants, each with its number in the module `wire` that is in use there.
@@ -142,4 +149,108 @@ fn sound_refusals_are_those_of_the_call() {
     let numbers = named(&sound(), "VIRTIO_SND_REFUSAL_");
     let expected = [(0, "none"), (2, "invalidstate"), (3, "shortroom")];
     assert_eq!(numbers, expected.map(|(number, name)| (number, name.to_owned())));
+}
+
+/// The results of calls, by their names in C and in Rust.
+const RESULTS: [(&str, &str); 4] = [
+    ("virtio_video_outcome", "Outcome"),
+    ("virtio_video_pending", "Pending"),
+    ("virtio_video_verdict", "Verdict"),
+    ("virtio_snd_outcome", "SoundOutcome"),
+];
+
+/// Other types, in the same way.
+const NUMBERS: [(&str, &str); 5] = [
+    ("uint8_t", "u8"),
+    ("uint16_t", "u16"),
+    ("uint32_t", "u32"),
+    ("uint64_t", "u64"),
+    ("size_t", "usize"),
+];
+
+/// A name and its type in Rust: a field of a struct, or a parameter of a function.
+type Named = (String, String);
+
+/// The code without its comments, each of which stands between these two, and with one blank wherever
+/// there are any.
+fn code(text: &str, comment: (&str, &str)) -> String {
+    let (first, behind) = text.split_once(comment.0).expect(comment.0);
+    let rest = behind.split(comment.0).map(|piece| piece.split_once(comment.1).expect(piece).1);
+    let code: String = [first].into_iter().chain(rest).collect();
+    code.split_whitespace().collect::<Vec<_>>().join(" ")
+}
+
+fn in_c() -> String {
+    [VIDEO, SOUND].map(|file| code(&text(file), ("/*", "*/"))).join(" ")
+}
+
+fn in_rust() -> String {
+    code(include_str!("../src/ffi.rs"), ("//", "\n"))
+}
+
+/// What stands between these two, the first time that they are there.
+fn between<'a>(code: &'a str, start: &str, end: &str) -> &'a str {
+    code.split_once(start).expect(start).1.split_once(end).expect(end).0
+}
+
+/// A type of C as one of Rust.
+fn type_of_c(c_type: &str) -> String {
+    if let Some(to) = c_type.strip_suffix(" *") {
+        return match to.strip_prefix("const ") {
+            Some(to) => format!("*const {}", type_of_c(to)),
+            None => format!("*mut {}", type_of_c(to)),
+        };
+    }
+    let (known, name) = match c_type.strip_prefix("struct ") {
+        Some(name) => (&RESULTS[..], name),
+        None => (&NUMBERS[..], c_type),
+    };
+    known.iter().find(|known| known.0 == name).expect(c_type).1.to_owned()
+}
+
+/// `type name` or `type *name`.
+fn named_of_c(text: &str) -> Named {
+    let at = text.rfind([' ', '*']).expect(text) + 1;
+    (text[at..].to_owned(), type_of_c(text[..at].trim_end()))
+}
+
+/// `name: type`, perhaps public.
+fn named_of_rust(text: &str) -> Named {
+    let (name, kind) = text.trim_start_matches("pub ").split_once(": ").expect(text);
+    (name.to_owned(), kind.to_owned())
+}
+
+fn each(list: &str, separator: char, named: fn(&str) -> Named) -> Vec<Named> {
+    list.split(separator).map(str::trim).filter(|text| !text.is_empty()).map(named).collect()
+}
+
+#[test]
+fn results_agree() {
+    let (c, rust) = (in_c(), in_rust());
+    let derived = "#[repr(C)] #[derive(Clone, Copy, Debug, PartialEq, Eq)] pub struct";
+    for (name, rust_name) in RESULTS {
+        let of_c = between(&c, &format!("struct {name} {{"), "}");
+        let of_rust = between(&rust, &format!("{derived} {rust_name} {{"), "}");
+        assert_eq!(each(of_c, ';', named_of_c), each(of_rust, ',', named_of_rust), "{name}");
+    }
+}
+
+#[test]
+fn functions_agree() {
+    let of_c = |statement: &str| {
+        let (head, parameters) = statement.strip_suffix(')')?.split_once('(')?;
+        let (result, name) = head.trim_start().rsplit_once(' ')?;
+        let declared = || (name.to_owned(), each(parameters, ',', named_of_c), type_of_c(result));
+        name.starts_with("virtio_").then(declared)
+    };
+    let of_rust = |statement: &str| {
+        let (name, rest) = statement.trim_start().strip_prefix("fn ")?.split_once('(')?;
+        let (parameters, result) = rest.split_once(") -> ")?;
+        Some((name.to_owned(), each(parameters, ',', named_of_rust), result.to_owned()))
+    };
+    let c: Vec<_> = in_c().split(';').filter_map(of_c).collect();
+    let rust: Vec<_> =
+        between(&in_rust(), "extern \"C\" {", "}").split(';').filter_map(of_rust).collect();
+    assert_eq!(c, rust);
+    assert_eq!(c.len(), 8);
 }

@@ -7,7 +7,13 @@ mod guest;
 use std::collections::HashSet;
 use virtio_video_decoder::log::{self, AnswerLine, Fault, Frame, Line, Verdict};
 use virtio_video_decoder::QueueType::{Input, Output};
-use virtio_video_decoder::{ffi, wire, Decoder, Finish, Refusal, Response};
+use virtio_video_decoder::{ffi, wire, Decoder, Finish, Pending, Refusal, Response};
+
+/// Where the figures of pending answers stand: the total, and for each place its mark, which is the
+/// number of its stream and 1, and its figure.
+const TOTAL: usize = 4129;
+const MARKS: usize = 4130;
+const FIGURES: usize = 4138;
 
 /// A device with stream 7, inputs 1 and 2 and output 1.
 fn ready() -> Decoder {
@@ -224,9 +230,20 @@ fn numbers_are_spent_until_a_reset() {
 
 #[test]
 fn words_of_no_device_are_refused() {
-    // Words without use, a drain's word above 1, a ticket with no drain, and the number of the live
-    // stream, which is no longer spent.
-    for (word, value) in [(511, 1), (wire::TABLE_WORDS - 1, 1), (3, 2), (4, 1), (4096, 0)] {
+    for (word, value) in [
+        // Words without use, a drain's word above 1, and a ticket with no drain.
+        (511, 1),
+        (wire::TABLE_WORDS - 1, 1),
+        (3, 2),
+        (4, 1),
+        // The number of the live stream, which is no longer spent.
+        (4096, 0),
+        // Figures of pending answers that do not match: the total, a mark, a figure.
+        (TOTAL, 1),
+        (MARKS, 0),
+        (MARKS + 1, 9),
+        (FIGURES, 1),
+    ] {
         let mut words = *ready().table();
         assert_ne!(words[word], value);
         words[word] = value;
@@ -241,6 +258,128 @@ fn words_of_no_device_are_refused() {
         decoder.reset();
         assert_eq!(tell(&mut decoder, &guest::drain(7)), [error(0x0302)]);
     }
+}
+
+fn pending(pending: u32, words_read: u32) -> Pending {
+    Pending { pending, words_read }
+}
+
+/// What is pending after each step, in all and to stream 7, which is alone and has the first place.
+#[test]
+fn pending_answers_are_counted() {
+    let command = |command| Frame::Command { ticket: 0, command };
+    let finish = |queue: virtio_video_decoder::QueueType, resource, flags| {
+        let (stream, queue_type, timestamp) = (7, queue.number(), 0);
+        Frame::Finish { stream, queue_type, resource, flags, timestamp }
+    };
+    let last = finish(Output, 1, wire::BUFFER_FLAG_EOS);
+    let mut decoder = ready();
+    assert_eq!(decoder.pending_of_stream(7), pending(0, 2));
+    for (step, count) in [
+        (command(guest::queue(7, Input, 1, 40)), 1),
+        (command(guest::queue(7, Input, 1, 40)), 1), // an error
+        (command(guest::queue(7, Input, 2, 41)), 2),
+        (command(guest::queue(7, Output, 1, 0)), 3),
+        (command(guest::drain(7)), 4),
+        (command(guest::drain(7)), 4), // an error
+        (finish(Input, 2, 0), 3),
+        (last.clone(), 3), // refused
+        (finish(Input, 1, 1), 2),
+        (last.clone(), 0), // two answers
+        (last, 0),         // refused
+        (command(guest::queue(7, Output, 1, 0)), 1),
+        (command(guest::drain(7)), 2),
+        (command(guest::clear(7, Output)), 1),
+        (command(guest::destroy_all(7, Output)), 1),
+        (Frame::Drained { stream: 7 }, 0),
+        (command(guest::queue(7, Input, 2, 42)), 1),
+        (command(guest::drain(7)), 2),
+        (command(guest::clear(7, Input)), 0),
+        (command(guest::queue(7, Input, 1, 43)), 1),
+    ] {
+        step.replay(&mut decoder);
+        let before = *decoder.table();
+        assert_eq!(decoder.pending_in_all(), pending(count, 1), "{step:?}");
+        assert_eq!(decoder.pending_of_stream(7), pending(count, 2), "{step:?}");
+        assert_eq!(decoder.table(), &before);
+    }
+    tell(&mut decoder, &guest::destroy(7));
+    assert_eq!(decoder.pending_in_all(), pending(0, 1));
+    assert_eq!(decoder.pending_of_stream(7), pending(0, 8));
+}
+
+#[test]
+fn streams_are_looked_for_in_order() {
+    let mut decoder = Decoder::new();
+    let none = pending(0, 8);
+    for stream in [0, 7, 1023, 1024, u32::MAX] {
+        assert_eq!(decoder.pending_of_stream(stream), none);
+    }
+    // Each place has one answer more than the one before.
+    let numbers = [0, 1023, 5, 1, 900, 31, 32, 7];
+    for (stream, count) in numbers.into_iter().zip(1..) {
+        decoder.command(0, &guest::create(stream, wire::FORMAT_VP8, "")).unwrap();
+        assert_eq!(decoder.pending_of_stream(stream), pending(0, count + 1));
+        for resource in 0..count {
+            decoder.command(0, &guest::import(stream, Output, resource, 1)).unwrap();
+            decoder.command(0, &guest::queue(stream, Output, resource, 1)).unwrap();
+        }
+    }
+    for (stream, count) in numbers.into_iter().zip(1..) {
+        assert_eq!(decoder.pending_of_stream(stream), pending(count, count + 1));
+    }
+    assert_eq!(decoder.pending_in_all(), pending(36, 1));
+    assert_eq!(decoder.pending_of_stream(u32::MAX), none);
+
+    // A vacant place is looked at too, and is no stream's. The next one takes it.
+    decoder.command(0, &guest::destroy(5)).unwrap();
+    assert_eq!(decoder.pending_in_all(), pending(33, 1));
+    for stream in [5, u32::MAX] {
+        assert_eq!(decoder.pending_of_stream(stream), none);
+    }
+    assert_eq!(decoder.pending_of_stream(7), pending(8, 9));
+    decoder.command(0, &guest::create(6, wire::FORMAT_VP8, "")).unwrap();
+    decoder.command(0, &guest::drain(6)).unwrap();
+    assert_eq!(decoder.pending_of_stream(6), pending(1, 4));
+    decoder.reset();
+    assert_eq!(decoder.pending_in_all(), pending(0, 1));
+    assert_eq!(decoder.pending_of_stream(7), none);
+}
+
+/// A question tests nothing but the length. It gives what the words hold, that of the first mark.
+#[test]
+fn any_words_are_asked() {
+    let mut words = [0xaaaa_aaaa; wire::TABLE_WORDS + 1];
+    words[TOTAL] = u32::MAX;
+    words[MARKS..FIGURES].copy_from_slice(&[0, 8, 0, 8, 9, 1, 1024, u32::MAX]);
+    for (figure, at) in words[FIGURES..FIGURES + 8].iter_mut().zip(100..) {
+        *figure = at;
+    }
+    let before = words;
+    let said = |refusal, (pending, words_read)| ffi::Pending { refusal, pending, words_read };
+    assert_eq!(ffi::pending_in_all(&words), said(0, (u32::MAX, 1)));
+    for (stream, expected) in [
+        (7, (101, 3)),
+        (8, (104, 6)),
+        (0, (105, 7)),
+        (1023, (106, 8)),
+        (u32::MAX - 1, (107, 9)),
+        (1, (0, 8)),
+        (u32::MAX, (0, 8)),
+    ] {
+        assert_eq!(ffi::pending_of_stream(&words, stream), said(0, expected), "{stream}");
+        let full = &words[..wire::TABLE_WORDS];
+        assert_eq!(ffi::pending_of_stream(full, stream), said(0, expected), "{stream}");
+        for short in [&words[..wire::TABLE_WORDS - 1], &[]] {
+            assert_eq!(ffi::pending_of_stream(short, stream), said(1, (0, 0)));
+            assert_eq!(ffi::pending_in_all(short), said(1, (0, 0)));
+        }
+    }
+    assert_eq!(words, before);
+    // A device of such words has these figures, though its steps are refused.
+    let decoder = Decoder::from_words(words[..wire::TABLE_WORDS].try_into().unwrap());
+    assert_eq!(decoder.pending_in_all(), pending(u32::MAX, 1));
+    assert_eq!(decoder.pending_of_stream(7), pending(101, 3));
 }
 
 #[test]
@@ -281,6 +420,7 @@ fn the_room_holds_the_longest_step() {
         }
     }
     decoder.command(4, &guest::drain(7)).unwrap();
+    assert_eq!(decoder.pending_of_stream(7), pending(33, 2));
     let answers = decoder.command(5, &guest::destroy(7)).unwrap();
     assert_eq!(answers.as_bytes().len(), wire::ANSWER_ROOM);
     let buffers = || (0..16).map(|n| buffer(0, n, 1));
@@ -460,6 +600,14 @@ fn devices_may_cross_threads() {
     fn check<T: Send + Sync>(_: &T) {}
     let mut decoder = ready();
     check(&decoder);
+    decoder.command(3, &guest::drain(7)).unwrap();
+    // Any number of threads may ask at the same time.
+    std::thread::scope(|scope| {
+        let ask = || (decoder.pending_in_all(), decoder.pending_of_stream(7));
+        for asked in [scope.spawn(ask), scope.spawn(ask)] {
+            assert_eq!(asked.join().unwrap(), (pending(1, 1), pending(1, 2)));
+        }
+    });
     let handle = std::thread::spawn(move || tell(&mut decoder, &guest::destroy(7)));
-    assert_eq!(handle.join().unwrap(), [done(0)]);
+    assert_eq!(handle.join().unwrap(), [done(3), done(0)]);
 }

@@ -2,6 +2,7 @@
 
 use super::device::Report;
 use super::on_words::{Core, Outcome};
+use super::pending::Pending;
 use virtio_video_decoder::ffi;
 
 /// The archive under test.
@@ -11,6 +12,13 @@ pub struct Archive(());
 impl From<ffi::Outcome> for Outcome {
     fn from(outcome: ffi::Outcome) -> Self {
         Outcome { refusal: outcome.refusal, written: outcome.written }
+    }
+}
+
+impl From<ffi::Pending> for Pending {
+    fn from(said: ffi::Pending) -> Self {
+        let ffi::Pending { refusal, pending, words_read } = said;
+        Pending { refusal, pending, words_read }
     }
 }
 
@@ -30,5 +38,13 @@ impl Core for Archive {
 
     fn drained(&self, table: &mut [u32], stream: u32, answers: &mut [u8]) -> Outcome {
         ffi::drained(table, stream, answers).into()
+    }
+
+    fn pending_in_all(&self, table: &[u32]) -> Pending {
+        ffi::pending_in_all(table).into()
+    }
+
+    fn pending_of_stream(&self, table: &[u32], stream: u32) -> Pending {
+        ffi::pending_of_stream(table, stream).into()
     }
 }

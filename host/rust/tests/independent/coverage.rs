@@ -4,9 +4,11 @@
 use std::collections::BTreeMap;
 use std::fmt;
 
+use super::asked;
 use super::device::*;
 use super::drains::{Pasts, DRAIN_EDGES, SLOT_EDGES};
 use super::layout::{has_hole, WORDS};
+use super::pending::{self, Question};
 use super::random::BAD_TEXT;
 
 /// Stands for a command of an unknown type or 0x0100.
@@ -183,7 +185,41 @@ const EDGES: &[(&str, u32)] = &[
     ("live number 1,024 above a spent one", 2),
     ("live number of 2^31 or more", 2),
     ("word 4,128 not 0", 2),
+    ("word 4,146 not 0", 2),
     ("word 4,159 not 0", 2),
+    ("total 0", 2),
+    ("total 1", 2),
+    ("total one more", 2),
+    ("total one less", 2),
+    ("total 256 more", 2),
+    ("total of at most 264", 2),
+    ("total 2^32 - 1", 2),
+    ("mark of a live place 0", 2),
+    ("mark of a live place without the 1", 2),
+    ("mark of a live place one more", 2),
+    ("mark of a live place 1,024 more", 2),
+    ("mark of a live place 2^16 more", 2),
+    ("mark of a live place 1", 2),
+    ("mark of a live place that of another", 2),
+    ("mark of a vacant place 1", 2),
+    ("mark of a vacant place 2^32 - 1", 2),
+    ("mark of a vacant place that of a spent number", 2),
+    ("mark of a vacant place that of another", 2),
+    ("figure of a vacant place 1", 2),
+    ("figure of a vacant place 2^32 - 1", 2),
+    ("figure of a vacant place that of another", 2),
+    ("figure 0", 2),
+    ("figure one more", 2),
+    ("figure one less", 2),
+    ("figure 256 more", 2),
+    ("figure of at most 33", 2),
+    ("figure of another place", 2),
+    ("figure 2^32 - 1", 2),
+    ("figure and total one more", 2),
+    ("figure one more, another one less", 2),
+    ("marks of two places turned", 2),
+    ("figures of two places turned", 2),
+    ("marks and figures of two places turned", 2),
     (FORGOTTEN, OK_NODATA),
 ];
 
@@ -229,7 +265,7 @@ const OTHER_FAULTS: [(Why, u32); 7] = [
 const LENGTHS: [usize; 5] = [4095, 4096, 4159, 4160, 4161];
 
 /// Deep states, and whether these records or the step that led to them are such.
-fn depths(device: &Device, written: &[u8], words: usize) -> [(Why, bool); 17] {
+fn depths(device: &Device, written: &[u8], words: usize) -> [(Why, bool); 18] {
     let queues = || device.streams().flat_map(|stream| [&stream.input, &stream.output]);
     let queued = |stream: &Stream| stream.input.queued() + stream.output.queued();
     let on_both = |stream: &Stream| {
@@ -250,6 +286,10 @@ fn depths(device: &Device, written: &[u8], words: usize) -> [(Why, bool); 17] {
         ("32 Queued in a stream", device.streams().any(|stream| queued(stream) == 2 * SLOTS)),
         ("100 Queued in a table", device.streams().map(queued).sum::<usize>() >= 100),
         ("4 drains owed", drains >= 4),
+        (
+            "256 answers pending in a table",
+            device.streams().map(pending::of_stream).sum::<u32>() >= 256,
+        ),
         ("a drain owed, its ticket 0", of_zero),
         ("a free place before a used one", hole),
         ("one resource number on both queues", device.streams().any(on_both)),
@@ -295,8 +335,11 @@ pub struct Coverage {
     after: Counts<Why>,
     /// Commands and reports for a destroyed stream, by kind of step and what is given.
     late: Counts<(u32, u32)>,
-    /// By kind of step and the table's length.
+    /// By kind of step, or of another call, and the table's length.
     lengths: Counts<(u32, usize)>,
+    /// Questions for pending answers, by each of their names, and all of them.
+    asked: Counts<Why>,
+    questions: u64,
     /// Of the table at hand: numbers whose creation was refused, with the reason.
     refused: BTreeMap<u32, Why>,
     /// Of the table at hand: the numbers that were spent when it was last made fresh.
@@ -335,7 +378,14 @@ impl Coverage {
         self.forgotten = forgotten;
     }
 
-    /// Counts a step, or making fresh, by the length of its table.
+    /// Counts a question on this table, with its records if it is valid.
+    pub fn count_question(&mut self, table: &[u32], device: Option<&Device>, question: Question) {
+        self.questions += 1;
+        self.count_length(question.kind(), table.len());
+        asked::names(table, device, question).into_iter().for_each(|name| self.asked.add(name));
+    }
+
+    /// Counts a step, or another call, by the length of its table.
     pub fn count_length(&mut self, kind: u32, words: usize) {
         self.lengths.add((kind, words));
     }
@@ -444,6 +494,7 @@ impl Coverage {
             self.of_edges(wanted_edges()),
             self.of_numbers(),
             self.of_lengths(),
+            self.of_questions(),
             self.of_depths(),
         ];
         let mut complaints = rare(counts.concat(), least);
@@ -517,10 +568,16 @@ impl Coverage {
         counts
     }
 
+    /// The questions with their counts.
+    fn of_questions(&self) -> Vec<(u64, String)> {
+        let names = asked::wanted().into_iter();
+        names.map(|name| (self.asked.of(name), format!("asked: {name}"))).collect()
+    }
+
     /// The tables beside each edge of their length, by kind of step, with their counts.
     fn of_lengths(&self) -> Vec<(u64, String)> {
         let mut counts = Vec::new();
-        for kind in [FRESH, COMMAND, FINISH, DRAINED] {
+        for kind in [FRESH, COMMAND, FINISH, DRAINED, IN_ALL, OF_STREAM] {
             for words in LENGTHS {
                 let count = self.lengths.of((kind, words));
                 let kind = if kind == COMMAND { "command" } else { name(kind) };
@@ -565,7 +622,7 @@ fn wanted_late() -> impl Iterator<Item = (u32, u32)> {
 /// Prints the outcomes by kind of step, and whatever is to be met with its count.
 impl fmt::Display for Coverage {
     fn fmt(&self, out: &mut fmt::Formatter) -> fmt::Result {
-        writeln!(out, "{} steps", self.steps)?;
+        writeln!(out, "{} steps, {} questions", self.steps, self.questions)?;
         let mut last = None;
         for (&(kind, refusal, code), count) in &self.outcomes.0 {
             if last != Some(kind) {
@@ -580,6 +637,7 @@ impl fmt::Display for Coverage {
             ("By reason, successes, and what was owed", self.of_lists(wanted_reasons())),
             ("Stream numbers", self.of_numbers()),
             ("Lengths of tables", self.of_lengths()),
+            ("Questions", self.of_questions()),
             ("Edges", self.of_edges(wanted_edges())),
             ("Deep states", self.of_depths()),
         ] {
@@ -620,6 +678,8 @@ pub fn name(kind: u32) -> &'static str {
         FINISH => "finish",
         DRAINED => "drained",
         FRESH => "fresh",
+        IN_ALL => "total asked",
+        OF_STREAM => "stream asked",
         UNKNOWN => "0x0100 and unknown",
         STREAM_CREATE => "0x0101 create",
         STREAM_DESTROY => "0x0102 destroy",

@@ -35,11 +35,13 @@ pub const QUERY_CONTROL: u32 = 0x010A;
 pub const GET_CONTROL: u32 = 0x010B;
 pub const SET_CONTROL: u32 = 0x010C;
 
-/// Kinds of step that are not the type of a known command, to name their tests.
+/// Kinds of step, and of other calls, that are not the type of a known command, to name their tests.
 pub const COMMAND: u32 = 0;
 pub const FINISH: u32 = 1;
 pub const DRAINED: u32 = 2;
 pub const FRESH: u32 = 3;
+pub const IN_ALL: u32 = 4;
+pub const OF_STREAM: u32 = 5;
 
 pub const OK_NODATA: u32 = 0x0200;
 pub const OK_RESOURCE_QUEUE: u32 = 0x0202;
@@ -73,6 +75,24 @@ impl Act {
             Act::Command { .. } => COMMAND,
             Act::Finish(_) => FINISH,
             Act::Drained { .. } => DRAINED,
+        }
+    }
+
+    /// The kind, of a command its type, and the queue type that a command or finish names.
+    pub fn kind_and_queue(&self) -> (u32, u32) {
+        match self {
+            Act::Command { frame, .. } => (word(frame, 0), word(frame, 8)),
+            Act::Finish(report) => (FINISH, report.queue_type),
+            Act::Drained { .. } => (DRAINED, 0),
+        }
+    }
+
+    /// "A step belongs to the stream number in it; a command under 8 bytes belongs to none."
+    pub fn stream(&self) -> Option<u32> {
+        match self {
+            Act::Command { frame, .. } => (frame.len() >= 8).then(|| word(frame, 4)),
+            Act::Finish(report) => Some(report.stream),
+            Act::Drained { stream } => Some(*stream),
         }
     }
 }

@@ -114,7 +114,7 @@ struct Past {
 impl Past {
     /// Notes a step that was taken, by the stream before it.
     fn take(&mut self, stream: &Stream, act: &Act) {
-        let (kind, queue_type) = kind_and_queue(act);
+        let (kind, queue_type) = act.kind_and_queue();
         if kind == STREAM_DRAIN {
             let outputs_at_drain = Some(stream.output.has_any());
             *self = Past { outputs_at_drain, ended_by: self.ended_by, ..Past::default() };
@@ -167,7 +167,7 @@ impl Pasts {
             (Act::Finish(report), None) => view.of_finish_without_drain(report),
             (Act::Drained { .. }, Some(_)) => view.of_drained(),
             (Act::Drained { .. }, None) => vec![("drained after EOS", view.after_eos())],
-            (Act::Command { .. }, _) => view.of_command(kind_and_queue(act)),
+            (Act::Command { .. }, _) => view.of_command(act.kind_and_queue()),
         };
         names.into_iter().filter(|name| name.1).map(|name| name.0).collect()
     }
@@ -378,19 +378,5 @@ fn only_last_is_queued(queue: &Queue) -> bool {
 
 /// The live stream that a step is for.
 fn stream_of<'d>(device: &'d Device, act: &Act) -> Option<&'d Stream> {
-    let number = match act {
-        Act::Command { frame, .. } if frame.len() < 8 => return None,
-        Act::Command { frame, .. } => word(frame, 4),
-        Act::Finish(report) => report.stream,
-        Act::Drained { stream } => *stream,
-    };
-    device.stream(number)
-}
-
-/// The kind of a step, of a command its type, and the queue type that a command names.
-fn kind_and_queue(act: &Act) -> (u32, u32) {
-    match act {
-        Act::Command { frame, .. } => (word(frame, 0), word(frame, 8)),
-        _ => (act.kind(), 0),
-    }
+    device.stream(act.stream()?)
 }

@@ -2,14 +2,20 @@
 //! asks"), and not by the core's own test.
 
 use super::device::*;
+use super::pending;
 use super::slips::Slip;
 
 pub const WORDS: usize = 4160;
 pub const BLOCK: usize = 512;
-/// Where the spent numbers stand, behind the blocks.
+/// Where the spent numbers stand, behind the blocks, and where they end.
 pub const SPENT_AT: usize = 4096;
-/// From here on the table's words have no use.
-pub const UNUSED_AT: usize = 4128;
+pub const SPENT_END: usize = 4128;
+/// Where the figures of pending answers stand: the total, the marks of the places, their figures.
+pub const TOTAL_AT: usize = 4129;
+pub const MARKS_AT: usize = 4130;
+pub const FIGURES_AT: usize = 4138;
+/// From here on the table's words have no use; nor has the one between spent numbers and total.
+pub const UNUSED_AT: usize = 4146;
 /// Where the drain's word stands in a block, its ticket behind it.
 pub const DRAIN_AT: usize = 3;
 /// Where a queue starts in a block.
@@ -21,6 +27,9 @@ pub const SLOT: usize = 5;
 const QUEUE: usize = SLOTS_AT + SLOTS * SLOT;
 /// From here on a block's words have no use.
 pub const TAIL_AT: usize = OUTPUT_AT + QUEUE;
+
+/// The words behind the spent numbers.
+pub type Behind = [u32; WORDS - SPENT_END];
 
 /// The rule that a table breaks, the first one found.
 #[derive(Clone, Copy, Debug, PartialEq, Eq, PartialOrd, Ord)]
@@ -55,12 +64,18 @@ pub enum Broken {
     StreamTwice,
     /// The number of a live place is not spent.
     NotSpent,
-    /// One of words 4,128 to 4,159 is not zero.
+    /// Word 4,128 or one of words 4,146 to 4,159 is not zero.
     Unused,
+    /// The total is not that of the answers pending.
+    Total,
+    /// The mark of a place is not its stream's number and 1, or not 0 where it is vacant.
+    Mark,
+    /// The figure of a place is not that of the answers pending to its stream.
+    Figure,
 }
 
 impl Broken {
-    pub const ALL: [Broken; 16] = [
+    pub const ALL: [Broken; 19] = [
         Broken::Live,
         Broken::Vacant,
         Broken::Drain,
@@ -77,6 +92,9 @@ impl Broken {
         Broken::StreamTwice,
         Broken::NotSpent,
         Broken::Unused,
+        Broken::Total,
+        Broken::Mark,
+        Broken::Figure,
     ];
 }
 
@@ -92,7 +110,7 @@ pub fn read(words: &[u32], slip: Option<Slip>) -> Result<Device, Broken> {
     let asked = if slip == Some(Slip::FirstLiveAsked) { 1 } else { PLACES };
     let spent = live().take(asked).all(|number| taken_as_spent(&device.spent, number, slip));
     ask(spent, Broken::NotSpent, slip)?;
-    ask(unused_is_zero(words, slip), Broken::Unused, slip)?;
+    ask_behind(&device, &words[SPENT_END..WORDS], slip)?;
     ask_too_much(&device, slip)?;
     Ok(device)
 }
@@ -123,21 +141,87 @@ fn taken_as_spent(spent: &Spent, number: u32, slip: Option<Slip>) -> bool {
     }
 }
 
-/// Whether words 4,128 to 4,159 are zero.
-fn unused_is_zero(words: &[u32], slip: Option<Slip>) -> bool {
-    match slip {
-        Some(Slip::UnusedTaken(at)) => {
-            all_zero(&words[UNUSED_AT..at]) && all_zero(&words[at + 1..WORDS])
+/// "The mark and the figure of each place and the total are those that follow from the blocks", and
+/// the words without use amid them are zero.
+fn ask_behind(device: &Device, found: &[u32], slip: Option<Slip>) -> Result<(), Broken> {
+    let right = slipped(device, behind_records(device));
+    for (at, (word, wanted)) in (SPENT_END..).zip(found.iter().zip(&right)) {
+        let passed = || match slip {
+            Some(Slip::BehindTaken(taken)) => at == taken,
+            Some(Slip::Pending(slip)) => slip.takes(device, at, found, &right),
+            _ => false,
+        };
+        let rule = match at {
+            TOTAL_AT => Broken::Total,
+            MARKS_AT..FIGURES_AT => Broken::Mark,
+            FIGURES_AT..UNUSED_AT => Broken::Figure,
+            _ => Broken::Unused,
+        };
+        ask(word == wanted || passed(), rule, slip)?;
+    }
+    Ok(())
+}
+
+/// The words behind the spent numbers, by the records.
+fn behind_records(device: &Device) -> Behind {
+    behind(device.places.each_ref().map(|place| {
+        let stream = place.as_ref()?;
+        Some((stream.number, pending::of_stream(stream)))
+    }))
+}
+
+/// The same by the words of the blocks, whatever else is wrong with them.
+fn behind_blocks(words: &[u32]) -> Behind {
+    let queues = [INPUT_AT + SLOTS_AT..OUTPUT_AT, OUTPUT_AT + SLOTS_AT..TAIL_AT];
+    let mut streams = [None; PLACES];
+    for (stream, block) in streams.iter_mut().zip(words.chunks_exact(BLOCK)) {
+        if block[0] != 0 {
+            let slots = queues.iter().flat_map(|queue| block[queue.clone()].chunks_exact(SLOT));
+            let queued = slots.filter(|slot| slot[0] == 2).count() as u32;
+            *stream = Some((block[1], queued + u32::from(block[DRAIN_AT] != 0)));
         }
-        _ => all_zero(&words[UNUSED_AT..WORDS]),
+    }
+    behind(streams)
+}
+
+/// The words behind the spent numbers, of the number and figure in each place.
+fn behind(streams: [Option<(u32, u32)>; PLACES]) -> Behind {
+    let mut words = Behind::default();
+    for (place, stream) in streams.into_iter().enumerate() {
+        let Some((number, figure)) = stream else { continue };
+        // 2^32 - 1, which has no mark, stands in no valid table.
+        words[MARKS_AT - SPENT_END + place] = number.wrapping_add(1);
+        words[FIGURES_AT - SPENT_END + place] = figure;
+        words[TOTAL_AT - SPENT_END] += figure;
+    }
+    words
+}
+
+/// These words, or what a slip has in their stead.
+fn slipped(device: &Device, right: Behind) -> Behind {
+    match device.slip {
+        Some(Slip::Pending(slip)) => slip.behind(device),
+        _ => right,
     }
 }
 
+/// The figures of pending answers that follow from the blocks of these words.
+pub fn settled(words: &[u32]) -> [u32; UNUSED_AT - TOTAL_AT] {
+    let behind = behind_blocks(words);
+    std::array::from_fn(|at| behind[TOTAL_AT - SPENT_END + at])
+}
+
+/// Makes the figures of pending answers follow from the blocks, which were changed.
+pub fn settle(words: &mut [u32]) {
+    let settled = settled(words);
+    words[TOTAL_AT..UNUSED_AT].copy_from_slice(&settled);
+}
+
 /// "Number n is bit n % 32 of word 4,096 + n / 32", which is how `Spent` has it too.
-fn read_spent(words: &[u32], slip: Option<Slip>) -> Spent {
+pub fn read_spent(words: &[u32], slip: Option<Slip>) -> Spent {
     let mut spent = Spent::default();
     match misplaced(slip) {
-        None => spent.0.copy_from_slice(&words[SPENT_AT..UNUSED_AT]),
+        None => spent.0.copy_from_slice(&words[SPENT_AT..SPENT_END]),
         Some(place) => {
             let stands = |&number: &u32| {
                 let (at, bit) = place(number);
@@ -156,7 +240,7 @@ fn misplaced(slip: Option<Slip>) -> Option<impl Fn(u32) -> (usize, u32)> {
         Slip::SpentBytesTurned => |word, bit| (word, bit ^ 24),
         Slip::SpentWordsTurned => |word, bit| (31 - word, bit),
         Slip::SpentSwapped => |word, bit| (bit as usize, word as u32),
-        Slip::SpentInUnused => |word, bit| (UNUSED_AT - SPENT_AT + word, bit),
+        Slip::SpentOneWordOn => |word, bit| (word + 1, bit),
         _ => return None,
     };
     Some(move |number| {
@@ -252,7 +336,8 @@ fn read_slot(slot: &[u32], slip: Option<Slip>) -> Result<Option<Resource>, Broke
     Ok(Some(Resource { number, state }))
 }
 
-/// The words of the records and the spent numbers. `words` are the table's first 4,160.
+/// The words of the records and the spent numbers, and of the answers pending by them. `words` are
+/// the table's first 4,160.
 pub fn write(device: &Device, words: &mut [u32]) {
     for (place, block) in device.places.iter().zip(words.chunks_exact_mut(BLOCK)) {
         match place {
@@ -260,14 +345,16 @@ pub fn write(device: &Device, words: &mut [u32]) {
             Some(stream) => write_place(stream, block),
         }
     }
+    let behind = slipped(device, behind_blocks(words));
+    words[SPENT_END..WORDS].copy_from_slice(&behind);
     write_spent(device, words);
 }
 
-/// The words of the spent numbers, and those without use behind them.
+/// The words of the spent numbers.
 pub fn write_spent(device: &Device, words: &mut [u32]) {
-    words[SPENT_AT..WORDS].fill(0);
+    words[SPENT_AT..SPENT_END].fill(0);
     match misplaced(device.slip) {
-        None => words[SPENT_AT..UNUSED_AT].copy_from_slice(&device.spent.0),
+        None => words[SPENT_AT..SPENT_END].copy_from_slice(&device.spent.0),
         Some(place) => {
             for (at, bit) in device.spent.numbers().map(place) {
                 words[at] |= 1 << bit;
@@ -333,6 +420,7 @@ pub fn without_use(device: &Device) -> Vec<usize> {
         }
         unused.extend(start + TAIL_AT..start + BLOCK);
     }
+    unused.push(SPENT_END);
     unused.extend(UNUSED_AT..WORDS);
     unused
 }

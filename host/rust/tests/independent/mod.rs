@@ -8,6 +8,7 @@
 #![allow(dead_code)]
 
 pub mod archive;
+pub mod asked;
 pub mod by_hand;
 pub mod checker;
 pub mod checker_slips;
@@ -19,8 +20,11 @@ pub mod layout;
 pub mod log;
 pub mod log_slips;
 pub mod on_words;
+pub mod pending;
+pub mod pending_slips;
 pub mod program;
 pub mod random;
+pub mod random_figures;
 pub mod random_lines;
 pub mod slips;
 pub mod sound;

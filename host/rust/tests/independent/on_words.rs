@@ -3,8 +3,10 @@
 
 use super::device::*;
 use super::layout::{
-    self, BLOCK, DRAIN_AT, INPUT_AT, OUTPUT_AT, SLOT, SLOTS_AT, SPENT_AT, TAIL_AT, UNUSED_AT, WORDS,
+    self, BLOCK, DRAIN_AT, INPUT_AT, OUTPUT_AT, SLOT, SLOTS_AT, SPENT_AT, SPENT_END, TAIL_AT, WORDS,
 };
+use super::pending::{by_words, Pending, Question};
+use super::pending_slips::PendingSlip;
 use super::slips::Slip;
 
 /// What a step gives back: a refusal number or 0, with the number of bytes written.
@@ -14,19 +16,38 @@ pub struct Outcome {
     pub written: u32,
 }
 
-/// The four entries of a core.
+/// The six entries of a core.
 pub trait Core {
     fn fresh(&self, table: &mut [u32]) -> u32;
     fn command(&self, table: &mut [u32], ticket: u32, frame: &[u8], answers: &mut [u8]) -> Outcome;
     fn finish(&self, table: &mut [u32], report: &Report, answers: &mut [u8]) -> Outcome;
     fn drained(&self, table: &mut [u32], stream: u32, answers: &mut [u8]) -> Outcome;
+    fn pending_in_all(&self, table: &[u32]) -> Pending;
+    fn pending_of_stream(&self, table: &[u32], stream: u32) -> Pending;
 
     fn step(&self, table: &mut [u32], act: &Act, answers: &mut [u8]) -> Outcome {
-        match act {
-            Act::Command { ticket, frame } => self.command(table, *ticket, frame, answers),
-            Act::Finish(report) => self.finish(table, report, answers),
-            Act::Drained { stream } => self.drained(table, *stream, answers),
+        by_kind(self, table, act, answers)
+    }
+
+    fn ask(&self, table: &[u32], question: Question) -> Pending {
+        match question {
+            Question::InAll => self.pending_in_all(table),
+            Question::OfStream(stream) => self.pending_of_stream(table, stream),
         }
+    }
+}
+
+/// A step through the entry of its kind.
+fn by_kind(
+    core: &(impl Core + ?Sized),
+    table: &mut [u32],
+    act: &Act,
+    answers: &mut [u8],
+) -> Outcome {
+    match act {
+        Act::Command { ticket, frame } => core.command(table, *ticket, frame, answers),
+        Act::Finish(report) => core.finish(table, report, answers),
+        Act::Drained { stream } => core.drained(table, *stream, answers),
     }
 }
 
@@ -44,8 +65,13 @@ impl Core for OnWords {
             Some(Slip::FreshFills(words)) => words,
             _ => WORDS,
         };
+        let kept = match self.0 {
+            Some(Slip::FreshKeepsSpent) => SPENT_AT..SPENT_END,
+            Some(Slip::Pending(PendingSlip::FreshKeeps(part))) => part.words(),
+            _ => 0..0,
+        };
         for (at, word) in table.iter_mut().enumerate().take(end) {
-            if self.0 != Some(Slip::FreshKeepsSpent) || !(SPENT_AT..UNUSED_AT).contains(&at) {
+            if !kept.contains(&at) {
                 *word = 0;
             }
         }
@@ -73,6 +99,39 @@ impl Core for OnWords {
     fn drained(&self, table: &mut [u32], stream: u32, answers: &mut [u8]) -> Outcome {
         on_words(self.0, DRAINED, table, answers, |device, room| device.drained(stream, room))
     }
+
+    fn pending_in_all(&self, table: &[u32]) -> Pending {
+        asked(self.0, table, Question::InAll)
+    }
+
+    fn pending_of_stream(&self, table: &[u32], stream: u32) -> Pending {
+        asked(self.0, table, Question::OfStream(stream))
+    }
+
+    fn step(&self, table: &mut [u32], act: &Act, answers: &mut [u8]) -> Outcome {
+        let mut step = |table: &mut [u32]| by_kind(self, table, act, answers);
+        match self.0 {
+            Some(Slip::Pending(slip)) => slip.miscount(act, table, step),
+            _ => step(table),
+        }
+    }
+}
+
+/// A question, which has no test but that of the table's length.
+fn asked(slip: Option<Slip>, table: &[u32], question: Question) -> Pending {
+    match slip {
+        Some(Slip::Pending(slip)) => slip.ask(table, question),
+        Some(Slip::Needs(..)) if table.len() < needed(slip, question.kind()) => Pending::SHORT,
+        Some(Slip::Needs(..)) => by_words(&filled(table), question),
+        _ => by_words(table, question),
+    }
+}
+
+/// The words of a table, those that are missing being zero, which only a slip gets to see.
+pub fn filled(table: &[u32]) -> Vec<u32> {
+    let mut whole = table.to_vec();
+    whole.resize(WORDS.max(table.len()), 0);
+    whole
 }
 
 /// One step on a lent table and answer room: test, read, step, write back.
@@ -142,9 +201,7 @@ fn on_words(
         return refuse(1);
     }
     if table.len() < WORDS {
-        // Only a slip takes so few; to it the rest is zero.
-        let mut whole = table.to_vec();
-        whole.resize(WORDS, 0);
+        let mut whole = filled(table);
         let outcome = on_words(slip, kind, &mut whole, room, step);
         table.copy_from_slice(&whole[..table.len()]);
         return outcome;
@@ -221,7 +278,7 @@ fn drain_all_the_same(table: &mut [u32], step: impl FnOnce(&mut Device, usize) -
 }
 
 /// Where the blocks start whose drains are owed before a step and not after it.
-fn blocks_drained(before: &[u32], after: &[u32]) -> Vec<usize> {
+pub fn blocks_drained(before: &[u32], after: &[u32]) -> Vec<usize> {
     let drained = |block: &usize| before[block + DRAIN_AT] == 1 && after[block + DRAIN_AT] == 0;
     (0..SPENT_AT).step_by(BLOCK).filter(drained).collect()
 }

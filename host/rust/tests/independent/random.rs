@@ -5,7 +5,8 @@
 use super::device::*;
 use super::frames::{self, put, put_long};
 use super::layout::{
-    self, BLOCK, DRAIN_AT, INPUT_AT, OUTPUT_AT, SLOT, SLOTS_AT, SPENT_AT, TAIL_AT, UNUSED_AT, WORDS,
+    self, BLOCK, DRAIN_AT, INPUT_AT, MARKS_AT, OUTPUT_AT, SLOT, SLOTS_AT, SPENT_AT, SPENT_END,
+    TAIL_AT, UNUSED_AT, WORDS,
 };
 
 /// SplitMix64: one number of state, every seed good.
@@ -1289,6 +1290,9 @@ impl Generator {
 
     /// Records of a table to lend: any that are valid, with holes and numbers in no order.
     pub fn lent(&mut self) -> Device {
+        if self.rng.percent(12) {
+            return full(Some);
+        }
         let mut device = Device::default();
         let streams = self.rng.pick(&[10, 40, 70, 100]);
         let resources = self.rng.pick(&[0, 10, 50, 90, 100]);
@@ -1392,20 +1396,33 @@ impl Generator {
     /// So many words are not enough for a table.
     pub fn short_length(&mut self) -> usize {
         let edge = self.rng.pick(&[SPENT_AT - 1, SPENT_AT, WORDS - 1]);
-        let other = self.rng.pick(&[0, 1, 512, UNUSED_AT]);
+        let other = self.rng.pick(&[0, 1, 512, SPENT_END, MARKS_AT, UNUSED_AT]);
         let any = self.rng.below(WORDS);
         self.rng.pick(&[edge, edge, edge, other, any])
     }
 
-    /// Changes one word of a table; it may still be valid then. Gives the edge, if it is one.
+    /// Changes a table; it may still be valid then. Gives the edge, if it is one.
     pub fn spoil(&mut self, table: &mut [u32]) -> Option<&'static str> {
+        if self.rng.percent(45) {
+            return self.spoil_behind(table);
+        }
+        let edge = self.spoil_word(table);
+        // Mostly the figures of pending answers follow, so that nothing else is wrong.
+        if self.rng.percent(85) {
+            layout::settle(table);
+        }
+        edge
+    }
+
+    /// Changes a word of the blocks or of the spent numbers, with what belongs to it.
+    fn spoil_word(&mut self, table: &mut [u32]) -> Option<&'static str> {
         let block = BLOCK * self.rng.below(PLACES);
         let queue = block + self.rng.pick(&[INPUT_AT, OUTPUT_AT]);
         let slot = |rng: &mut Rng| queue + SLOTS_AT + SLOT * rng.below(SLOTS);
         let odd = self.rng.pick(&ODD_WORDS);
-        match self.rng.below(19) {
-            0 => table[self.rng.below(WORDS)] = odd,
-            1 => table[self.rng.below(WORDS)] ^= 1 << self.rng.below(32),
+        match self.rng.below(18) {
+            0 => table[self.rng.below(SPENT_END)] = odd,
+            1 => table[self.rng.below(SPENT_END)] ^= 1 << self.rng.below(32),
             2 => table[block + self.rng.below(INPUT_AT)] = odd,
             3 => table[queue + self.rng.below(SLOTS_AT)] = odd,
             4 => table[slot(&mut self.rng) + self.rng.below(SLOT)] = odd,
@@ -1415,23 +1432,12 @@ impl Generator {
             }
             6 => table[BLOCK * self.rng.below(PLACES) + 1] = table[block + 1],
             7 => table[block + self.rng.within(TAIL_AT, BLOCK - 1)] = odd,
-            8 => table[self.rng.within(SPENT_AT, UNUSED_AT - 1)] = self.rng.word(),
-            9 => return self.spoil_unused(table),
-            10 | 11 => return self.spoil_number(table),
-            12 | 13 => return self.spoil_head(table),
+            8 => table[self.rng.within(SPENT_AT, SPENT_END - 1)] = self.rng.word(),
+            9 | 10 => return self.spoil_number(table),
+            11 | 12 => return self.spoil_head(table),
             _ => return self.spoil_drain(table),
         }
         None
-    }
-
-    /// Changes one of words 4,128 to 4,159, the first or the last one more often.
-    fn spoil_unused(&mut self, table: &mut [u32]) -> Option<&'static str> {
-        let any = (self.rng.within(UNUSED_AT, WORDS - 1), None);
-        let first = (UNUSED_AT, Some("word 4,128 not 0"));
-        let last = (WORDS - 1, Some("word 4,159 not 0"));
-        let (at, edge) = self.rng.pick(&[first, last, any, any]);
-        table[at] = self.rng.pick(&[1, 2, 0x8000_0000, 0xffff_ffff]);
-        edge
     }
 
     /// Makes the number of a live stream one that is not spent: its bit is dropped, or it becomes a
@@ -1495,6 +1501,24 @@ impl Generator {
             self.rng.pick(&[ROOM, ROOM, ROOM, ROOM + 1, 2000])
         }
     }
+}
+
+/// Records with every place taken and every resource Queued, and these drains by stream number.
+pub fn full(drain: impl Fn(u32) -> Option<u32>) -> Device {
+    let mut full = Device::default();
+    for (number, place) in numbers().rev().zip(&mut full.places) {
+        full.spent.add(number);
+        let mut stream = Stream::new(number, 0x1003);
+        stream.drain = drain(number);
+        for queue in [&mut stream.input, &mut stream.output] {
+            for (number, slot) in queue.resources.iter_mut().enumerate() {
+                let state = State::Queued { ticket: 8, timestamp: u64::MAX };
+                *slot = Some(Resource { number: number as u32, state });
+            }
+        }
+        *place = Some(stream);
+    }
+    full
 }
 
 /// The numbers that are not spent, in ascending order.

@@ -3,7 +3,10 @@
 
 use super::coverage::{OWED, REASONS, SUCCESSES, UNKNOWN};
 use super::device::*;
-use super::layout::{Broken, DRAIN_AT, SPENT_AT, UNUSED_AT, WORDS};
+use super::layout::{
+    Broken, DRAIN_AT, FIGURES_AT, MARKS_AT, SPENT_AT, SPENT_END, TOTAL_AT, UNUSED_AT, WORDS,
+};
+use super::pending_slips::{self, PendingSlip};
 
 /// One slip. A device has at most one.
 #[derive(Clone, Copy, Debug, PartialEq, Eq)]
@@ -281,8 +284,8 @@ pub enum Slip {
     FirstLiveAsked,
     /// A table with a spent number that is not live is not valid.
     SpentHasToLive,
-    /// A table is taken whatever this word without use is.
-    UnusedTaken(usize),
+    /// A table is taken whatever this word behind the spent numbers is.
+    BehindTaken(usize),
     /// The highest bit of a word stands for its lowest number.
     SpentBitsTurned,
     /// The bytes of a word stand in the other order.
@@ -291,8 +294,8 @@ pub enum Slip {
     SpentWordsTurned,
     /// Number n is bit n / 32 of word n % 32.
     SpentSwapped,
-    /// The spent numbers stand where the words have no use.
-    SpentInUnused,
+    /// The spent numbers stand one word further on.
+    SpentOneWordOn,
     /// A table with a free place before a used one is not valid.
     HolesRefused,
     /// The table's validity is tested before the room.
@@ -313,6 +316,9 @@ pub enum Slip {
     FreshKeepsSpent,
     /// Making fresh clears the words behind the first 4,160.
     FreshAllWords,
+
+    /// Of pending answers.
+    Pending(PendingSlip),
 }
 
 impl Slip {
@@ -336,12 +342,12 @@ impl Slip {
             | Slip::LiveByLastBits
             | Slip::FirstLiveAsked
             | Slip::SpentHasToLive
-            | Slip::UnusedTaken(_)
+            | Slip::BehindTaken(_)
             | Slip::SpentBitsTurned
             | Slip::SpentBytesTurned
             | Slip::SpentWordsTurned
             | Slip::SpentSwapped
-            | Slip::SpentInUnused
+            | Slip::SpentOneWordOn
             | Slip::HolesRefused
             | Slip::TableBeforeRoom
             | Slip::ShortRoomSpends
@@ -351,7 +357,8 @@ impl Slip {
             | Slip::AllWordsAsked
             | Slip::FreshFills(_)
             | Slip::FreshKeepsSpent
-            | Slip::FreshAllWords => true,
+            | Slip::FreshAllWords
+            | Slip::Pending(_) => true,
             Slip::Skipped(_, why) => why == "answer buffer under 1,056 bytes",
             Slip::First(_, why) => why == "command under 8 bytes",
             _ => false,
@@ -556,13 +563,11 @@ const NAMED: &[Slip] = &[
     Slip::LiveByLastBits,
     Slip::FirstLiveAsked,
     Slip::SpentHasToLive,
-    Slip::UnusedTaken(UNUSED_AT),
-    Slip::UnusedTaken(WORDS - 1),
     Slip::SpentBitsTurned,
     Slip::SpentBytesTurned,
     Slip::SpentWordsTurned,
     Slip::SpentSwapped,
-    Slip::SpentInUnused,
+    Slip::SpentOneWordOn,
     Slip::HolesRefused,
     Slip::TableBeforeRoom,
     Slip::ShortRoomSpends,
@@ -570,6 +575,10 @@ const NAMED: &[Slip] = &[
     Slip::RoomCleared,
     Slip::AllWordsAsked,
     Slip::FreshFills(SPENT_AT),
+    Slip::FreshFills(SPENT_END),
+    Slip::FreshFills(TOTAL_AT),
+    Slip::FreshFills(MARKS_AT),
+    Slip::FreshFills(FIGURES_AT),
     Slip::FreshFills(UNUSED_AT),
     Slip::FreshFills(WORDS - 1),
     Slip::FreshFills(WORDS + 1),
@@ -632,6 +641,7 @@ pub fn all() -> Vec<Slip> {
     slips.extend(of_numbers());
     slips.extend(of_tables());
     slips.extend(NAMED);
+    slips.extend(pending_slips::all().into_iter().map(Slip::Pending));
     slips
 }
 
@@ -672,15 +682,28 @@ fn of_numbers() -> Vec<Slip> {
     slips
 }
 
-/// Those of a table's length, and of some rules of a valid table, each in one entry alone.
+/// Those of a table's length, of some rules of a valid table, each in one entry alone, and of each word
+/// behind the spent numbers.
 fn of_tables() -> Vec<Slip> {
     let mut slips = Vec::new();
     for kind in [COMMAND, FINISH, DRAINED] {
         let rules = [Broken::Drain, Broken::QueueHead, Broken::NotSpent, Broken::Unused];
-        slips.extend(rules.map(|rule| Slip::TakenBy(kind, rule)));
+        let of_pending = [Broken::Total, Broken::Mark, Broken::Figure];
+        slips.extend(rules.into_iter().chain(of_pending).map(|rule| Slip::TakenBy(kind, rule)));
     }
     for kind in [FRESH, COMMAND, FINISH, DRAINED] {
         slips.extend([SPENT_AT, WORDS - 1, WORDS + 1].map(|words| Slip::Needs(kind, words)));
+    }
+    slips.extend(of_short_questions());
+    slips.extend((SPENT_END..WORDS).map(Slip::BehindTaken));
+    slips
+}
+
+/// Those of the length of a table that a question is asked of: the words that it reads, and others.
+pub fn of_short_questions() -> Vec<Slip> {
+    let mut slips = Vec::new();
+    for (kind, read) in [(IN_ALL, MARKS_AT), (OF_STREAM, UNUSED_AT)] {
+        slips.extend([SPENT_AT, read, WORDS - 1, WORDS + 1].map(|words| Slip::Needs(kind, words)));
     }
     slips
 }

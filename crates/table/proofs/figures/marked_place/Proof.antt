@@ -1,9 +1,9 @@
 -- `table::figures::marked_place` meets its contract. The invariant: no mark below `k` is the number's.
 use mathlib.Core.Path.{_≡_, sym, ap, _∙_}
 use mathlib.Core.Option.{none}
-use Prim.Native.Nat.{ℕ, suc, _+_, _-_, _≤_}
+use Prim.Native.Nat.{suc, _-_, _≤_}
 use native.Mathlib.Omega.{arith}
-use lib.ListN.{length, getD}
+use lib.ListN.{getD}
 use lib.Dec.{eqb}
 use Rattle.laws.specs.Parts.{part}
 use Rattle.laws.specs.Tests.{lowestBelow}

@@ -1,7 +1,6 @@
 -- `valid::numbers::numbers_distinct` meets its contract. The invariant: the numbers from element `i` on are apart, and `at` is where its words start.
 use mathlib.Core.Path.{_≡_, refl, sym, subst}
 use Prim.Native.Nat.{_+_, _-_, _*_, _≤_}
-use native.Mathlib.Nat.{mul-suc}
 use native.Mathlib.Omega.{arith}
 use borrow.Author.Needs.{needs}
 use Rattle.valid.specs.Rules.{numbersFrom, Apart}

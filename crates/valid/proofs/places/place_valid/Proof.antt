@@ -14,8 +14,8 @@ returns c =
     let start = c .before .before .before .before .before in
     c .vacant-valid .ensures (start .args .spent .now)
 
-live-valid-requires : tie.Need-live-valid-requires
-live-valid-requires c κs = search needs
+block-valid-requires : tie.Need-block-valid-requires
+block-valid-requires c κs = search needs
 
 returns-2 : tie.Need-returns-2
 returns-2 c = search needs
@@ -23,4 +23,4 @@ returns-2 c = search needs
 pub place-valid-spec : {M : Type 1} → statement M
 place-valid-spec =
     tie.close
-    (tie.spec shared-slice-read-if1 vacant-valid-requires returns live-valid-requires returns-2)
+    (tie.spec shared-slice-read-if1 vacant-valid-requires returns block-valid-requires returns-2)

@@ -1,5 +1,5 @@
 -- `valid::places::vacant_valid` meets its contract: the mark, the figure, and then all words.
-use mathlib.Core.Path.{sym, ap, _∙_}
+use mathlib.Core.Path.{ap, _∙_}
 use Prim.Native.Nat.{ℕ}
 use Rattle.laws.specs.Lists.{same}
 use Rattle.laws.specs.Parts.{zeros}
