@@ -177,7 +177,7 @@ fn blocks_valid(b: &[u32], spent: &[u32], w: &[u32]) -> bool
     numbers_distinct(b, PLACE_WORDS, PLACES)
 }
 
-// Whether the used words of a table are valid: its blocks are, with their marks and figures, the figure of all is the sum, and the words without use before and
+// Whether the used words of a table are valid: its blocks are, with their marks and figures, the total is the sum of the figures, and the words without use before and
 // behind the figures are zero.
 pub fn valid(t: &[u32]) -> bool
     requires { ⌜ length (now t) ≡ tableWords ⌝ }
