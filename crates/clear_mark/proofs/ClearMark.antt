@@ -125,8 +125,8 @@ blocks-are m (p ∷ ps) u h =
 encode-is : (d : MarkedDevice) (x : Device) → Unmarked (d .marks) → d .device ≡ x → allOf hasAllSlots (x .places) ≡ true → markedEncode d ≡ encode x
 unfolding markedEncode encode
 encode-is d x u e h =
-    ap (λ (y : Device). pieces (markedWords (d .marks)) (y .places) ++ behind y) e
-    ∙ ap (λ (w : List ℕ). w ++ behind x) (blocks-are (d .marks) (x .places) u h)
+    ap (λ (y : Device). pieces (markedWords (d .marks)) (y .places) ++ behind (y .spent) (y .places)) e
+    ∙ ap (λ (w : List ℕ). w ++ behind (x .spent) (x .places)) (blocks-are (d .marks) (x .places) u h)
 
 -- No list tells the two rules apart
 

@@ -97,7 +97,7 @@ markedWords m (occupied n b) = set (set (placeWords (occupied n b)) (queueStart 
 
 -- the used words
 unfoldable pub markedEncode : MarkedDevice → List ℕ
-markedEncode d = pieces (markedWords (d .marks)) (d .device .places) ++ behind (d .device)
+markedEncode d = pieces (markedWords (d .marks)) (d .device .places) ++ behind (d .device .spent) (d .device .places)
 
 -- The theorem: from a fresh table no list of steps tells the two rules apart
 
