@@ -124,7 +124,12 @@ module _ {A : Type 0} (p : A → Bool) where
   all-append [] m = refl
   all-append (x ∷ l) m = rw (all-append l m) (sym (and-assoc (p x) (allOf p l) (allOf p m)))
 
-  -- all of a list pass: so do all of its parts, and the one at each place
+  -- all of a list pass: so do all with the first two swapped, all of its parts, and the one at each place
+  pub all-swap : (x y : A) (l : List A) → allOf p (x ∷ y ∷ l) ≡ true → allOf p (y ∷ x ∷ l) ≡ true
+  all-swap x y l h =
+      let rest = and-right (p x) (p y && allOf p l) h in
+      both (and-left (p y) (allOf p l) rest) (both (and-left (p x) (p y && allOf p l) h) (and-right (p y) (allOf p l) rest))
+
   pub all-take : (k : ℕ) (l : List A) → allOf p l ≡ true → allOf p (take k l) ≡ true
   all-take zero l h = refl
   all-take (suc k) [] h = refl

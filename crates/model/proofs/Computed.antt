@@ -26,6 +26,9 @@ unfolding within same insertBy below notBelow field littleEndian classOf utf8Aft
 more-cases = record {
   spent-numbers = refl;
   last-pictures = refl;
+  order-kept = refl;
+  order-promised = refl;
+  two-buffers = refl;
   owners = refl;
   accepts = refl;
   last-error = refl;

@@ -164,12 +164,12 @@ two-parts n r flags ts s t before e x y is two one each-x each-y bytes inputs =
 -- What an accepted report found
 
 -- a step that is accepted is one of its stream, and is accepted there
-record Taken (d : Device) (s : Step) (n : ℕ) : Type 0 where
-  runs : stepOn d s ≡ performOf d (s .act) (some n)
-  replied : acceptedReply (serve (around d n) n (recordOf n (d .places)) (s .act)) ≡ true
+pub record Taken (d : Device) (s : Step) (n : ℕ) : Type 0 where
+  pub runs : stepOn d s ≡ performOf d (s .act) (some n)
+  pub replied : acceptedReply (serve (around d n) n (recordOf n (d .places)) (s .act)) ≡ true
 
-taken : (d : Device) (s : Step) → wellFormed d ≡ true → goodAct (s .act) ≡ true → accepted (eventOf s (stepOn d s)) ≡ true → Taken d s (stepStream (s .act))
-taken d s h m acc =
+pub step-taken : (d : Device) (s : Step) → wellFormed d ≡ true → goodAct (s .act) ≡ true → accepted (eventOf s (stepOn d s)) ≡ true → Taken d s (stepStream (s .act))
+step-taken d s h m acc =
     step-cases (λ (o : DeviceReply). acceptedDeviceReply o ≡ true → stepOn d s ≡ o → Taken d s (stepStream (s .act))) d s
     (λ k z y e. never (sym (simp z at y)))
     (λ k o y e. subst (Taken d s) (step-stream-is (s .act) k o) (record { runs = e; replied = y }))
@@ -281,7 +281,7 @@ module _ (before : List Event) (d : Device) (g : Agree d (ledgerOf before)) (roo
     output-ends : goodAct a ≡ true → accepted e ≡ true → EndsBoth n r flags ts a
     unfolding ownTickets
     output-ends m acc =
-        let t = taken d (stepAt a) (g .well) m acc in
+        let t = step-taken d (stepAt a) (g .well) m acc in
         let eos = eos-taken (around d n) n 0x101 r flags ts (recordOf n (d .places)) last (t .replied) in
         let answers : stepOn d (stepAt a) .answers ≡ lastAnswers n flags ts (eos .buffer) (eos .drain) = ap (λ (o : DeviceReply). o .answers) (t .runs) ∙ eos .answers in
         let parts : completed (notedOf k e) l ≡ pictures n r flags ts last l ++ drainsTo n l =
@@ -303,7 +303,7 @@ module _ (before : List Event) (d : Device) (g : Agree d (ledgerOf before)) (roo
     eos-ends : (qt : ℕ) → goodAct (finish n qt r flags ts) ≡ true → accepted (eventAt (finish n qt r flags ts)) ≡ true
         → (qt ≡ 0x101) × EndsBoth n r flags ts (finish n qt r flags ts)
     eos-ends qt m acc =
-        let found = taken d (stepAt (finish n qt r flags ts)) (g .well) m acc in
+        let found = step-taken d (stepAt (finish n qt r flags ts)) (g .well) m acc in
         let is = eos-taken (around d n) n qt r flags ts (recordOf n (d .places)) last (found .replied) .isOutput in (
           is,
           subst (λ (x : ℕ). goodAct (finish n x r flags ts) ≡ true → accepted (eventAt (finish n x r flags ts)) ≡ true → EndsBoth n r flags ts (finish n x r flags ts))
@@ -329,7 +329,7 @@ module _ (before : List Event) (d : Device) (g : Agree d (ledgerOf before)) (roo
           subst (λ (x : ℕ). EndsDrain before (eventAt (finish n qt r flags ts)) (recordOf n (d .places)) (finish n x r flags ts)) (sym (end .0))
           (behindPicture n r flags ts (leb-true 2 flags last) (end .1 .last-picture))
       of (drained n) m acc c =
-          let over = over-taken (around d n) n (recordOf n (d .places)) (taken d (stepAt (drained n)) (g .well) m acc .replied) in
+          let over = over-taken (around d n) n (recordOf n (d .places)) (step-taken d (stepAt (drained n)) (g .well) m acc .replied) in
           byReport n (over .stream) (over .is) (over .outputs) (inputs-held n d l g (over .inputs))
 
 -- One event more at the end of a list

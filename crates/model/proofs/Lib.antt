@@ -21,3 +21,4 @@ pub mod Unchanged
 pub mod SpentForGood
 pub mod SpentExactly
 pub mod LastPicture
+pub mod Order

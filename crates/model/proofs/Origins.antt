@@ -122,6 +122,12 @@ module _ (P : Reply → Type 0) where
           let is : answerDrain n b (some t) ≡ cond (drainOver b) done (refuse 5 (some b)) = refl in
           subst P (sym is) (cond-elim P (drainOver b) (λ z. h b t (record { self-is = refl; drain-is = e; over-is = z })) (λ _. five))
 
+-- a finish report whose tests say so is taken
+pub finish-by-tests : (n qt r flags ts : ℕ) (self : Option Stream) (b : Stream) (q : QueueType) (i : Buffer) → ltb (err + eos) flags ≡ false → FinishTaken self qt r flags b q i
+    → onFinish n qt r flags ts self ≡ reply (finishAnswers n flags ts b q i) (some (finishLeaves r flags b q))
+unfolding onFinish
+finish-by-tests n qt r flags ts self b q i low h = simp (low, h .self-is, h .named-is, h .waits-is, h .eos-fits, h .not-early)
+
 -- a refusal by a number, or what the stream that the step names gives
 pub step-cases : (P : DeviceReply → Type 0) (d : Device) (s : Step) → ((k : ℕ) → eqb k 0 ≡ false → P (refused k d))
     → ((n : ℕ) → streamOf (s .act) ≡ some n → P (performOf d (s .act) (some n))) → P (stepOn d s)

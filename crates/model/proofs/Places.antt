@@ -80,6 +80,19 @@ put-same n r ps h =
     (λ f. simp e (install-same n r ps e f)))
     (λ e. simp e (replace-same n r ps e))
 
+-- and of a live number always; of two records put back for it only the last is left
+pub put-live : (n : ℕ) (r : Option Stream) (ps : List Place) → isNone (recordOf n ps) ≡ false → recordOf n (putRecord n r ps) ≡ r
+put-live n r ps live = put-same n r ps (λ e _. never (sym e ∙ live))
+
+replace-twice : (n : ℕ) (b : Stream) (r : Option Stream) (ps : List Place) → replace n r (replace n (some b) ps) ≡ replace n r ps
+replace-twice n b r [] = refl
+replace-twice n b r (vacant ∷ ps) = ap (λ x. vacant ∷ x) (replace-twice n b r ps)
+replace-twice n b r (occupied m c ∷ ps) = decide (eqb m n) (λ e. simp (e, eqb-same n, replace-twice n b r ps)) (λ e. simp (e, replace-twice n b r ps))
+
+pub put-twice : (n : ℕ) (b : Stream) (r : Option Stream) (ps : List Place) → isNone (recordOf n ps) ≡ false → putRecord n r (putRecord n (some b) ps) ≡ putRecord n r ps
+unfolding putRecord
+put-twice n b r ps h = simp (h, ap isNone (replace-same n (some b) ps h)) (replace-twice n b r ps)
+
 pub put-other : (m n : ℕ) (r : Option Stream) (ps : List Place) → eqb n m ≡ false → recordOf m (putRecord n r ps) ≡ recordOf m ps
 unfolding putRecord
 put-other m n r ps h = decide (isNone (recordOf n ps)) (λ e. simp e (install-other m n r ps h)) (λ e. simp e (replace-other m n r ps h))

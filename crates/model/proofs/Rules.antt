@@ -40,7 +40,12 @@ by-creation P h unknown =
     (each-map (λ l. creates (l .command) ≡ eqb (l .type) 0x0101) (λ l. P (eqb (l .type) 0x0101) (some l)) (λ l e. subst (λ (b : Bool). P b (some l)) e (h l)) commands only-creation)
     (λ ty. unknown (eqb ty 0x0101))
 
--- a number that names a queue is that queue's
+-- a queue is named by its number, and a number that names a queue is that queue's
+pub number-names : (q : QueueType) → queueNamed (queueNumber q) ≡ some q
+unfolding queueNamed
+number-names input = refl
+number-names output = refl
+
 pub named-number : (n : ℕ) (q : QueueType) → queueNamed n ≡ some q → n ≡ queueNumber q
 unfolding queueNamed
 named-number n q e =

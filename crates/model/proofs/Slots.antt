@@ -2,7 +2,7 @@
 use Prim.Native.Nat.{ℕ, suc, _≤_}
 use native.Mathlib.Omega.{arith}
 use mathlib.Core.Path.{_≡_, refl, sym, ap, _∙_}
-use mathlib.Core.Bool.{Bool, true, false, not}
+use mathlib.Core.Bool.{Bool, true, false, cond, not}
 use mathlib.Core.Option.{none, some}
 use mathlib.Core.List.{List, [], _∷_}
 use lib.ListN.{length}
@@ -49,6 +49,28 @@ queued-finish r (free ∷ s) = queued-finish r s
 queued-finish r (resource m created ∷ s) = decide (eqb m r) (λ e. simp e (queued-finish r s)) (λ e. simp e (queued-finish r s))
 queued-finish r (resource m (queued t ts) ∷ s) = decide (eqb m r) (λ e. simp e (queued-finish r s)) (λ e. simp (e, queued-finish r s))
 queued-finish r (resource m dequeued ∷ s) = decide (eqb m r) (λ e. simp e (queued-finish r s)) (λ e. simp e (queued-finish r s))
+
+-- the Queued buffer of a number after a finish of another, or of its own
+pub buffer-finish : (m r : ℕ) (s : List Slot) → bufferOf r (queuedIn (setState m dequeued s)) ≡ cond (eqb m r) none (bufferOf r (queuedIn s))
+buffer-finish m r s = ap (bufferOf r) (queued-finish m s) ∙ of (queuedIn s)
+  where
+    of : (l : List Buffer) → bufferOf r (keep (λ i. not (isRes m i)) l) ≡ cond (eqb m r) none (bufferOf r l)
+    of [] = decide (eqb m r) (λ e. simp e) (λ e. simp e)
+    of (i ∷ l) =
+        decide (eqb (i .resource) m)
+        (λ e. decide (eqb m r) (λ f. simp (e, f) (of l ∙ simp f)) (λ f. simp (e, f, ap (λ (x : ℕ). eqb x r) (eqb-true (i .resource) m e)) (of l ∙ simp f)))
+        (λ e. decide (eqb (i .resource) r)
+        (λ f. simp (e, f, eqb-sym r m (ap (λ (x : ℕ). eqb x m) (sym (eqb-true (i .resource) r f)) ∙ e)))
+        (λ f. simp (e, f) (of l)))
+
+-- changes of two different numbers may be made in either order
+pub set-commutes : (m r : ℕ) (p q : State) (s : List Slot) → eqb m r ≡ false → setState r q (setState m p s) ≡ setState m p (setState r q s)
+set-commutes m r p q [] h = refl
+set-commutes m r p q (free ∷ s) h = ap (λ l. free ∷ l) (set-commutes m r p q s h)
+set-commutes m r p q (resource k x ∷ s) h =
+    decide (eqb k m)
+    (λ e. let other : eqb k r ≡ false = ap (λ (x : ℕ). eqb x r) (eqb-true k m e) ∙ h in simp (e, other, set-commutes m r p q s h))
+    (λ e. simp (e, set-commutes m r p q s h))
 
 -- a number that is absent
 

@@ -131,6 +131,10 @@ module _ (L : Layout) (t : List ℕ) (v : valid L t ≡ true) where
   pub valid-log : Lawful L → (ss : List Step) → goodSteps ss ≡ true → tableEvents L t ss ≡ eventsOf inTable ss
   valid-log law ss m = ap (λ (x : List ℕ). tableEvents L x ss) (sym valid-whole) ∙ same-log L law (drop tableWords t) inTable ss valid-device m
 
+  -- and leaves the same
+  pub valid-final : (law : Lawful L) (ss : List Step) → goodSteps ss ≡ true → tableFinal L t ss ≡ wordsOf L law (drop tableWords t) (final inTable ss)
+  valid-final law ss m = ap (λ (x : List ℕ). tableFinal L x ss) (sym valid-whole) ∙ same-final L law (drop tableWords t) inTable ss valid-device m
+
 -- Condition 3 over tables
 
 fresh-is : (L : Layout) (t : List ℕ) → tableWords ≤ length t → freshen L t ≡ record { refusal = 0; table = L .encode fresh ++ drop tableWords t }

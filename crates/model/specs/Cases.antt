@@ -1,4 +1,5 @@
--- How a case is checked on the definitions, the ten cases of document 01 that are to be, three on spent numbers, six on the last picture of a drain, and some lines on what no run shows.
+-- How a case is checked on the definitions, the ten cases of document 01 that are to be, three on spent numbers, six on the last picture of a drain, five on the
+-- order of two steps, and some lines on what no run shows.
 use Prim.Native.Nat.{ℕ}
 use mathlib.Core.Bool.{Bool, true, false, _&&_}
 use mathlib.Core.Option.{some}
@@ -13,6 +14,7 @@ use Rattle.model.specs.Answers.{wordBytes, bytesOf}
 use Rattle.model.specs.Steps.{Act, command, finish, drained, Step, DeviceReply, stepOn, Event, eventOf, eventsOf, final, isError, accepted, belongs, outOfMemoryAt}
 use Rattle.model.specs.Ledger.{noted, toBuffer, toDrain, Ledger, ledgerOf, expectedTickets, outstanding, outstandingIn}
 use Rattle.model.specs.WellFormed.{wellFormed, goodAct}
+use Rattle.model.specs.Promises.{finishedWithoutEos, bufferNamed, swapped}
 
 infix 80 _refused_ _gives_
 -- a step, its refusal number or 0, and the bytes that it writes, in words
@@ -180,6 +182,46 @@ lastPictureCases =
     (drained 7 refused 5 ∷ askClear 6 0x100 gives (bufferEnds 5 77 1 ++ (successTo 4 ++ successTo 6)) ∷ [])
     ∷ []
 
+-- resource 9 of both queues Queued and a drain pending, by the steps 3, 4 and 6; step 5, a second queueing, gets an error
+abbrev pub allPending : List Act
+allPending = bothQueues ++ askQueue 30 0x101 9 78 1 ∷ askQueue 20 0x100 9 77 1 ∷ askQueue 21 0x100 9 79 1 ∷ askDrain 40 ∷ []
+
+-- Order inside one stream: two steps after others, one way and the other
+pub record Order : Type 0 where
+  pub earlier : List Act
+  pub one : Act
+  pub other : Act
+
+abbrev pub order : List Act → Act → Act → Order
+order b one other = record { earlier = b; one = one; other = other }
+
+-- what the host gets back of steps after others
+abbrev pub eventsAfter : List Act → List Act → List Event
+eventsAfter b l = eventsOf (deviceAfter b) (map roomy l)
+
+-- the refusal number and the bytes of each
+abbrev pub shownBy : List Event → List ℕ
+shownBy [] = []
+shownBy (e ∷ es) = e .refusal ∷ (e .bytes ++ shownBy es)
+
+-- the other way round they give the same, swapped
+abbrev pub swaps : Order → Bool
+swaps c = same (shownBy (eventsAfter (c .earlier) (c .other ∷ c .one ∷ []))) (shownBy (swapped (eventsAfter (c .earlier) (c .one ∷ c .other ∷ []))))
+
+-- they are a run of finish reports without EOS
+abbrev pub isRun : Order → Bool
+isRun c = allOf (finishedWithoutEos 7) (eventsAfter (c .earlier) (c .one ∷ c .other ∷ []))
+
+-- a drain pending: two finishes of one number on both queues; two of one buffer; a finish and a clear; a finish and one with EOS; without outputs a finish and a drained report
+abbrev pub orderCases : List Order
+orderCases =
+    order allPending (finish 7 0x100 9 0 0) (finish 7 0x101 9 1 88)
+    ∷ order allPending (finish 7 0x101 9 0 88) (finish 7 0x101 9 0 89)
+    ∷ order allPending (finish 7 0x101 9 0 88) (askClear 6 0x101)
+    ∷ order allPending (finish 7 0x100 9 0 0) (finish 7 0x101 9 2 88)
+    ∷ order (askCreate ∷ askResource 0x100 9 ∷ askQueue 5 0x100 9 77 1 ∷ askDrain 4 ∷ []) (finish 7 0x100 9 0 0) (drained 7)
+    ∷ []
+
 -- What no run shows: only condition 3 asks whose step it is, what is accepted or 'out of memory', what is pending, and which lists there
 -- are; and no words of a table stand for a queue of fifteen slots or for a number above 32 bits
 
@@ -191,11 +233,7 @@ eventAfter b a = eventOf (roomy a) (stepOn (deviceAfter b) (roomy a))
 abbrev pub ledgerLeft : List Act → Ledger
 ledgerLeft l = ledgerOf (eventsOf fresh (map roomy l))
 
--- resource 9 of both queues Queued and a drain pending, by the steps 3, 4 and 6; step 5, a second queueing, gets an error
-abbrev pub allPending : List Act
-allPending = bothQueues ++ askQueue 30 0x101 9 78 1 ∷ askQueue 20 0x100 9 77 1 ∷ askQueue 21 0x100 9 79 1 ∷ askDrain 40 ∷ []
-
--- the same, and step 7 clears the output
+-- all pending, and step 7 clears the output
 abbrev pub outputCleared : List Act
 outputCleared = allPending ++ askClear 8 0x101 ∷ []
 
@@ -207,6 +245,11 @@ pub record MoreCases : Type 0 where
   -- though runs show them too: a wrong rule is then refused by a case
   pub spent-numbers : allOf passes spentCases ≡ true
   pub last-pictures : allOf passes lastPictureCases ≡ true
+  -- of these only the first may be swapped, and only it is a run
+  pub order-kept : map swaps orderCases ≡ true ∷ false ∷ false ∷ false ∷ false ∷ []
+  pub order-promised : map isRun orderCases ≡ true ∷ false ∷ false ∷ false ∷ false ∷ []
+  -- one number on both queues is two buffers
+  pub two-buffers : same (bufferNamed (finish 7 0x100 9 0 0)) (bufferNamed (finish 7 0x101 9 0 0)) ≡ false
   -- a command of an unknown type, and a report that is refused, belong to the number in them; a command of 7 bytes belongs to none
   pub owners : map (belongs 7) (
       eventAfter [] (ask 5 (0x0100 ∷ 7 ∷ []))

@@ -4,10 +4,10 @@ use Prim.Native.Nat.{ℕ, _≤_, _<_}
 use mathlib.Core.Path.{_≡_}
 use mathlib.Core.Bool.{Bool, true, false, cond, not, _&&_, _||_}
 use mathlib.Core.Option.{Option, none, some}
-use mathlib.Core.List.{List, [], _∷_, _++_, map}
+use mathlib.Core.List.{List, [], _∷_, _++_, map, reverse, Perm}
 use lib.ListN.{length, take, drop}
 use lib.Dec.{eqb, ltb, leb}
-use Rattle.laws.specs.Lists.{anyOf, allOf, Each, howMany, isNone}
+use Rattle.laws.specs.Lists.{anyOf, allOf, Each, howMany, isNone, same}
 use Rattle.field.specs.Field.{field, littleEndian}
 use Rattle.model.specs.Numbers.{tableWords, answerRoom}
 use Rattle.model.specs.Device.{Slot, Stream, Place, vacant, occupied, Device, fresh, slotNumber}
@@ -16,7 +16,7 @@ use Rattle.model.specs.Answers.{ErrorCode, code, Answer, responseOf, wor
 use Rattle.model.specs.Steps.{Act, command, finish, drained, Step, stepOn, Event, eventOf, answersOf, accepted, belongs, isCreation, outOfMemoryAt}
 use Rattle.model.specs.Ledger.{Awaited, toDrain, Pending, Ledger, stepStream, isBufferOf, isDrain, resourceIn, awaits, completed, notedOf, ledgerOf}
 use Rattle.model.specs.WellFormed.{wellFormed, goodAct, goodSteps}
-use Rattle.model.specs.Tables.{Layout, Effect, untouched, valid, effect, freshen, tableEvent, tableEvents}
+use Rattle.model.specs.Tables.{Layout, Effect, untouched, valid, effect, freshen, tableEvent, tableEvents, tableFinal}
 use Rattle.model.specs.Condition3.{stepsOf, onTable}
 
 -- Over devices
@@ -207,3 +207,52 @@ NoDrainAfterEos L =
     → LastPicture n r flags ts before e
     × (isPending n isDrain (ledgerOf (before ++ e ∷ [])) ≡ false)
     × NotDraining (onTable L t (stepsOf (before ++ e ∷ [])) .records n)
+
+-- Order inside one stream: finish reports without EOS that are accepted one after the other may come in any order. The numbers are written out here too.
+
+-- a finish report of the stream n without EOS: its flags are 0, or 1 for ERR. Flags above 3 are never accepted.
+abbrev pub withoutEos : ℕ → Act → Bool
+withoutEos n (command t f) = false
+withoutEos n (finish m qt r flags ts) = eqb m n && ltb flags 2
+withoutEos n (drained m) = false
+
+-- such a report, accepted
+abbrev pub finishedWithoutEos : ℕ → Event → Bool
+finishedWithoutEos n e = withoutEos n (e .step .act) && accepted e
+
+-- a run of them on a table, each accepted in its turn
+pub record FinishRun (L : Layout) (t : List ℕ) (n : ℕ) (ss : List Step) : Type 0 where
+  pub inTypes : goodSteps ss ≡ true
+  pub inTurn : allOf (finishedWithoutEos n) (tableEvents L t ss) ≡ true
+
+-- the buffer that a report is of, by its queue type and its resource number: one number on both queues is two buffers
+abbrev pub bufferNamed : Act → List ℕ
+bufferNamed (command t f) = []
+bufferNamed (finish n qt r flags ts) = qt ∷ r ∷ []
+bufferNamed (drained n) = []
+
+-- a list of two the other way round
+abbrev pub swapped : {A : Type 0} → List A → List A
+swapped l = reverse l
+
+-- two reports of a run: they are of different buffers, and the other way round they are a run too, which leaves the same table, with the words behind the used ones, and
+-- gives the same two results and answers, swapped
+pub record Swapped (L : Layout) (t : List ℕ) (n : ℕ) (s u : Step) : Type 0 where
+  pub differ : same (bufferNamed (s .act)) (bufferNamed (u .act)) ≡ false
+  pub alsoRun : FinishRun L t n (u ∷ s ∷ [])
+  pub sameTable : tableFinal L t (u ∷ s ∷ []) ≡ tableFinal L t (s ∷ u ∷ [])
+  pub answersSwapped : tableEvents L t (u ∷ s ∷ []) ≡ swapped (tableEvents L t (s ∷ u ∷ []))
+
+-- from any valid table
+abbrev pub FinishesSwap : Layout → Type 0
+FinishesSwap L = (t : List ℕ) (n : ℕ) (s u : Step) → valid L t ≡ true → FinishRun L t n (s ∷ u ∷ []) → Swapped L t n s u
+
+-- a run in another order: it is a run too, which leaves the same table, and its steps with their results and bytes are those of the first, in another order
+pub record Rearranged (L : Layout) (t : List ℕ) (n : ℕ) (ss us : List Step) : Type 0 where
+  pub alsoRun : FinishRun L t n us
+  pub sameTable : tableFinal L t us ≡ tableFinal L t ss
+  pub sameAnswers : Perm (tableEvents L t us) (tableEvents L t ss)
+
+-- from any valid table, for every rearrangement
+abbrev pub AnyOrder : Layout → Type 0
+AnyOrder L = (t : List ℕ) (n : ℕ) (ss us : List Step) → valid L t ≡ true → FinishRun L t n ss → Perm ss us → Rearranged L t n ss us

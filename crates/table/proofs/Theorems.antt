@@ -33,6 +33,7 @@ use Rattle.model.proofs.Refusals.{only-listed, no-table-refusal}
 use Rattle.model.proofs.SpentForGood.{spent-for-good}
 use Rattle.model.proofs.SpentExactly.{spent-exactly}
 use Rattle.model.proofs.LastPicture.{drains-end, no-drain-after-eos}
+use Rattle.model.proofs.Order.{finishes-swap, any-order}
 use Rattle.model.proofs.Unchanged.{refusal-changes-nothing, error-changes-nothing, keeps-rest, stays-valid, writes-at-most}
 use Rattle.queue.specs.Words.{slotWords, queueWords}
 use Rattle.table.specs.Spent.{wordNumbers, spentSize, bitsWord, spentWords}
@@ -304,6 +305,8 @@ table-promises =
       spentForGood = spent-for-good layout meets-laws;
       drainsEnd = drains-end layout meets-laws;
       noDrainAfterEos = no-drain-after-eos layout meets-laws;
+      finishesSwap = finishes-swap layout meets-laws;
+      anyOrder = any-order layout meets-laws;
       shortRefused = short-refused;
       fewWords = few-words;
       noOtherWord = no-other-word;

@@ -15,7 +15,7 @@ use Rattle.model.specs.Steps.{Step}
 use Rattle.model.specs.Ledger.{ledgerOf}
 use Rattle.model.specs.WellFormed.{u32, wellFormed, goodSteps}
 use Rattle.model.specs.Tables.{Lawful, valid, freshen, tableEvents, tableFinal}
-use Rattle.model.specs.Promises.{FreshShort, FreshLong, RefusalChangesNothing, ErrorChangesNothing, KeepsRest, StaysValid, OnlyListed, NoTableRefusal, WritesAtMost, SpentForGood, SpentExactly, DrainsEnd, NoDrainAfterEos}
+use Rattle.model.specs.Promises.{FreshShort, FreshLong, RefusalChangesNothing, ErrorChangesNothing, KeepsRest, StaysValid, OnlyListed, NoTableRefusal, WritesAtMost, SpentForGood, SpentExactly, DrainsEnd, NoDrainAfterEos, FinishesSwap, AnyOrder}
 use Rattle.model.specs.Condition3.{OnTables}
 use Rattle.table.specs.Spent.{wordNumbers}
 use Rattle.table.specs.Figures.{totalAt, markedPlace, placesVisited, wordsRead, AgreeOn, askedInAll, askedOfStream}
@@ -127,6 +127,10 @@ pub record TablePromises : Type 0 where
   pub drainsEnd : DrainsEnd layout
   -- so that after every accepted finish with EOS its stream has no drain pending
   pub noDrainAfterEos : NoDrainAfterEos layout
+  -- from a valid table, of two finish reports of one stream without EOS that are accepted one after the other either may come first: the same table is left, and the two
+  -- results and answers are swapped; so a run of them may come in any order
+  pub finishesSwap : FinishesSwap layout
+  pub anyOrder : AnyOrder layout
   -- a question refuses a short table; it reads at most nine words, and looks at no other
   pub shortRefused : ShortRefused
   pub fewWords : FewWords
