@@ -20,6 +20,7 @@ pub mod layout;
 pub mod log;
 pub mod log_slips;
 pub mod on_words;
+pub mod order_slips;
 pub mod pending;
 pub mod pending_slips;
 pub mod program;

@@ -93,7 +93,12 @@ impl Core for OnWords {
     }
 
     fn finish(&self, table: &mut [u32], report: &Report, answers: &mut [u8]) -> Outcome {
-        on_words(self.0, FINISH, table, answers, |device, room| device.finish(report, room))
+        match self.0 {
+            Some(Slip::Order(slip)) => slip.finish(table, report, answers),
+            _ => {
+                on_words(self.0, FINISH, table, answers, |device, room| device.finish(report, room))
+            }
+        }
     }
 
     fn drained(&self, table: &mut [u32], stream: u32, answers: &mut [u8]) -> Outcome {
@@ -190,7 +195,7 @@ fn refuse(refusal: u32) -> Outcome {
 }
 
 /// A step of this kind, "tested 1, 3, 2, then" the step's own.
-fn on_words(
+pub fn on_words(
     slip: Option<Slip>,
     kind: u32,
     table: &mut [u32],

@@ -532,7 +532,7 @@ impl PendingSlip {
 }
 
 /// The place of a live stream, by the blocks.
-fn place_of(table: &[u32], stream: u32) -> Option<usize> {
+pub fn place_of(table: &[u32], stream: u32) -> Option<usize> {
     let mut blocks = table.chunks_exact(BLOCK).take(PLACES);
     blocks.position(|block| block[..2] == [1, stream])
 }

@@ -367,7 +367,7 @@ impl Generator {
         }
     }
 
-    fn timestamp(&mut self) -> u64 {
+    pub fn timestamp(&mut self) -> u64 {
         match self.rng.below(6) {
             0 => 0,
             1 => u64::MAX,
@@ -1527,7 +1527,7 @@ fn all_unspent(device: &Device) -> Vec<u32> {
 }
 
 /// The queue that a number names; any number but the input's is taken for the output here.
-fn queue(stream: &Stream, queue_type: u32) -> &Queue {
+pub fn queue(stream: &Stream, queue_type: u32) -> &Queue {
     if queue_type == INPUT {
         &stream.input
     } else {

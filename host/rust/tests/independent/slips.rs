@@ -6,6 +6,7 @@ use super::device::*;
 use super::layout::{
     Broken, DRAIN_AT, FIGURES_AT, MARKS_AT, SPENT_AT, SPENT_END, TOTAL_AT, UNUSED_AT, WORDS,
 };
+use super::order_slips::OrderSlip;
 use super::pending_slips::{self, PendingSlip};
 
 /// One slip. A device has at most one.
@@ -319,6 +320,10 @@ pub enum Slip {
 
     /// Of pending answers.
     Pending(PendingSlip),
+
+    /// Of the order of finishes. These are not among `all`: two orders of one run have to show them,
+    /// without another device beside.
+    Order(OrderSlip),
 }
 
 impl Slip {
@@ -358,7 +363,8 @@ impl Slip {
             | Slip::FreshFills(_)
             | Slip::FreshKeepsSpent
             | Slip::FreshAllWords
-            | Slip::Pending(_) => true,
+            | Slip::Pending(_)
+            | Slip::Order(_) => true,
             Slip::Skipped(_, why) => why == "answer buffer under 1,056 bytes",
             Slip::First(_, why) => why == "command under 8 bytes",
             _ => false,
