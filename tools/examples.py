@@ -92,8 +92,9 @@ def error(code):
     return lambda ticket, stream: answer(f"0x{code:04x}", ticket, code, stream)
 
 
-def drained(of):
-    return lambda ticket, stream: answer(f"the drain of line {of}", of, 0x0200, stream)
+def drained(of, ticket=None):
+    number = of if ticket is None else ticket
+    return lambda _, stream: answer(f"the drain of line {of}", number, 0x0200, stream)
 
 
 def buffer(of, timestamp, flags=0, ticket=None):
@@ -748,6 +749,147 @@ def streams():
     return log
 
 
+def rearranged():
+    log = Log("rearranged")
+    operation = error(0x0300)
+    taken = {}
+
+    # Streams that are to be in one state get their queueings and drains under one ticket, since the table keeps it.
+    # So the answers to these differ in nothing but the stream.
+    def each(text, streams, what, frame):
+        ticket = len(log.rows) + 1
+        for stream in streams:
+            taken[stream, what] = log.command(text, frame(stream), ticket=ticket), ticket
+
+    def done(stream, what, timestamp, flags=0):
+        line, ticket = taken[stream, what]
+        return buffer(line, timestamp, flags, ticket)
+
+    def ended(stream):
+        return drained(*taken[stream, "drain"])
+
+    # A run of reports without EOS, with no drain pending on streams 1 and 11, and with one on streams 2 and 12.
+    four = 1, 11, 2, 12
+    for stream in four:
+        log.command("create streams 1, 11, 2 and 12", create(stream), ok)
+    for number in 1, 2, 3:
+        for stream in four:
+            log.command("create inputs 1 to 3 of each", resource(stream, INPUT, number), ok)
+    for number in 1, 2, 3:
+        for stream in four:
+            log.command("create outputs 1 to 3 of each", resource(stream, OUTPUT, number), ok)
+    for number in 1, 2, 3:
+        text = f"queue input {number} of each, timestamp {10 + number}"
+        each(text, four, f"input {number}", lambda stream: queue(stream, INPUT, number, 10 + number))
+    for number in 1, 2, 3:
+        text = f"queue output {number} of each, timestamp {20 + number}"
+        each(text, four, f"output {number}", lambda stream: queue(stream, OUTPUT, number, 20 + number))
+
+    log.finish("stream 1: finish input 1", 1, INPUT, 1, 0, 0, done(1, "input 1", 11))
+    log.finish("finish output 1, timestamp 31, ERR", 1, OUTPUT, 1, 1, 31, done(1, "output 1", 31, 1))
+    log.finish("finish input 2, ERR", 1, INPUT, 2, 1, 0, done(1, "input 2", 12, 1))
+    log.finish("finish output 2, timestamp 32", 1, OUTPUT, 2, 0, 32, done(1, "output 2", 32))
+    log.finish("stream 11: finish output 2, timestamp 32", 11, OUTPUT, 2, 0, 32, done(11, "output 2", 32))
+    log.finish("finish input 1", 11, INPUT, 1, 0, 0, done(11, "input 1", 11))
+    log.finish("finish input 2, ERR", 11, INPUT, 2, 1, 0, done(11, "input 2", 12, 1))
+    log.finish("finish output 1, timestamp 31, ERR", 11, OUTPUT, 1, 1, 31, done(11, "output 1", 31, 1))
+    for stream in 1, 11:
+        text = "finish output 1 of both again, which is not Queued now"
+        log.finish(text, stream, OUTPUT, 1, 1, 31, refused(5))
+    each("queue input 1 of both, timestamp 14", (1, 11), "input 1", lambda stream: queue(stream, INPUT, 1, 14))
+    for stream in 1, 11:
+        log.command("queue input 3 of both, which stayed Queued", queue(stream, INPUT, 3, 15), operation)
+    for stream in 1, 11:
+        stopped = done(stream, "output 3", 23, 1)
+        log.command(f"clear the output of stream {stream}", clear(stream, OUTPUT), stopped, ok)
+    for stream in 1, 11:
+        stopped = done(stream, "input 1", 14, 1), done(stream, "input 3", 13, 1)
+        log.command(f"destroy stream {stream}", destroy(stream), *stopped, ok)
+
+    each("drain streams 2 and 12", (2, 12), "drain", drain)
+    log.finish("stream 2: finish input 1", 2, INPUT, 1, 0, 0, done(2, "input 1", 11))
+    log.finish("finish output 1, timestamp 31, ERR", 2, OUTPUT, 1, 1, 31, done(2, "output 1", 31, 1))
+    log.finish("finish input 2, ERR", 2, INPUT, 2, 1, 0, done(2, "input 2", 12, 1))
+    log.finish("finish output 2, timestamp 32", 2, OUTPUT, 2, 0, 32, done(2, "output 2", 32))
+    log.finish("stream 12: finish output 2, timestamp 32", 12, OUTPUT, 2, 0, 32, done(12, "output 2", 32))
+    log.finish("finish input 2, ERR", 12, INPUT, 2, 1, 0, done(12, "input 2", 12, 1))
+    log.finish("finish output 1, timestamp 31, ERR", 12, OUTPUT, 1, 1, 31, done(12, "output 1", 31, 1))
+    log.finish("finish input 1", 12, INPUT, 1, 0, 0, done(12, "input 1", 11))
+    for stream in 2, 12:
+        log.command("queue input 1 of both while draining", queue(stream, INPUT, 1, 14), operation)
+    each("queue output 1 of both, timestamp 24", (2, 12), "output 1", lambda stream: queue(stream, OUTPUT, 1, 24))
+    for stream in 2, 12:
+        stopped = done(stream, "input 3", 13, 1), done(stream, "output 1", 24, 1), done(stream, "output 3", 23, 1)
+        log.command(f"destroy stream {stream}", destroy(stream), *stopped, ended(stream), ok)
+
+    # A clear between two reports.
+    both = 3, 13
+    for stream in both:
+        log.command("create streams 3 and 13", create(stream), ok)
+    for stream in both:
+        log.command("create input 1 of both", resource(stream, INPUT, 1), ok)
+    for stream in both:
+        log.command("create output 1 of both", resource(stream, OUTPUT, 1), ok)
+    each("queue input 1 of both, timestamp 11", both, "input 1", lambda stream: queue(stream, INPUT, 1, 11))
+    each("queue output 1 of both, timestamp 21", both, "output 1", lambda stream: queue(stream, OUTPUT, 1, 21))
+    log.finish("stream 3: finish output 1, timestamp 31", 3, OUTPUT, 1, 0, 31, done(3, "output 1", 31))
+    log.command("clear the output", clear(3, OUTPUT), ok)
+    log.finish("finish input 1", 3, INPUT, 1, 0, 0, done(3, "input 1", 11))
+    log.finish("stream 13: finish input 1", 13, INPUT, 1, 0, 0, done(13, "input 1", 11))
+    log.command("clear the output, output 1 Queued", clear(13, OUTPUT), done(13, "output 1", 21, 1), ok)
+    log.finish("finish output 1, timestamp 31, which is not Queued now", 13, OUTPUT, 1, 0, 31, refused(5))
+    for stream in both:
+        log.command("destroy streams 3 and 13", destroy(stream), ok)
+
+    # EOS between two reports, with a drain pending.
+    both = 4, 14
+    for stream in both:
+        log.command("create streams 4 and 14", create(stream), ok)
+    for stream in both:
+        log.command("create input 1 of both", resource(stream, INPUT, 1), ok)
+    for number in 1, 2:
+        for stream in both:
+            log.command("create outputs 1 and 2 of both", resource(stream, OUTPUT, number), ok)
+    each("queue input 1 of both, timestamp 11", both, "input 1", lambda stream: queue(stream, INPUT, 1, 11))
+    each("queue output 1 of both, timestamp 21", both, "output 1", lambda stream: queue(stream, OUTPUT, 1, 21))
+    each("queue output 2 of both, timestamp 22", both, "output 2", lambda stream: queue(stream, OUTPUT, 2, 22))
+    each("drain both", both, "drain", drain)
+    log.finish("stream 4: finish input 1", 4, INPUT, 1, 0, 0, done(4, "input 1", 11))
+    text = "finish output 1, timestamp 31, EOS"
+    log.finish(text, 4, OUTPUT, 1, 2, 31, done(4, "output 1", 31, 2), ended(4))
+    log.finish("finish output 2, timestamp 32", 4, OUTPUT, 2, 0, 32, done(4, "output 2", 32))
+    log.finish("stream 14: finish output 2, timestamp 32", 14, OUTPUT, 2, 0, 32, done(14, "output 2", 32))
+    log.finish("finish output 1, timestamp 31, EOS, input 1 Queued", 14, OUTPUT, 1, 2, 31, refused(5))
+    log.finish("finish input 1", 14, INPUT, 1, 0, 0, done(14, "input 1", 11))
+    first = log.command("queue input 1 of stream 4, timestamp 14: inputs are taken again", queue(4, INPUT, 1, 14))
+    log.command("queue input 1 of stream 14: its drain is pending", queue(14, INPUT, 1, 14), operation)
+    text = "finish output 1 of stream 14 again, timestamp 31, EOS"
+    log.finish(text, 14, OUTPUT, 1, 2, 31, done(14, "output 1", 31, 2), ended(14))
+    second = log.command("queue input 1 of stream 14, timestamp 14", queue(14, INPUT, 1, 14))
+    log.command("destroy stream 4", destroy(4), buffer(first, 14, 1), ok)
+    log.command("destroy stream 14", destroy(14), buffer(second, 14, 1), ok)
+
+    # A drained report on either side of a finish.
+    both = 5, 15
+    for stream in both:
+        log.command("create streams 5 and 15", create(stream), ok)
+    for stream in both:
+        log.command("create input 1 of both, and no outputs", resource(stream, INPUT, 1), ok)
+    each("queue input 1 of both, timestamp 11", both, "input 1", lambda stream: queue(stream, INPUT, 1, 11))
+    each("drain both", both, "drain", drain)
+    log.finish("stream 5: finish input 1", 5, INPUT, 1, 0, 0, done(5, "input 1", 11))
+    log.drained("drained", 5, ended(5))
+    log.drained("stream 15: drained, input 1 Queued", 15, refused(5))
+    log.finish("finish input 1", 15, INPUT, 1, 0, 0, done(15, "input 1", 11))
+    first = log.command("queue input 1 of stream 5, timestamp 14: inputs are taken again", queue(5, INPUT, 1, 14))
+    log.command("queue input 1 of stream 15: its drain is pending", queue(15, INPUT, 1, 14), operation)
+    log.drained("stream 15 drained, told again", 15, ended(15))
+    second = log.command("queue input 1 of stream 15, timestamp 14", queue(15, INPUT, 1, 14))
+    log.command("destroy stream 5", destroy(5), buffer(first, 14, 1), ok)
+    log.command("destroy stream 15", destroy(15), buffer(second, 14, 1), ok)
+    return log
+
+
 def most():
     log = Log("most")
     log.command("create stream 3", create(3, b"most"), ok)
@@ -837,7 +979,7 @@ def lines():
 
 def main():
     folder = Path(__file__).resolve().parent.parent / "examples"
-    for make in three_lines, exchange, edges, orders, streams, most, lines:
+    for make in three_lines, exchange, edges, orders, streams, rearranged, most, lines:
         if "--tables" in sys.argv:
             make().table()
         else:

@@ -39,7 +39,8 @@ pub fn program(variable: &str, name: &str) -> PathBuf {
 pub fn examples() -> Vec<(String, Vec<u8>, Vec<u8>)> {
     let examples = files("log", "out");
     let names: Vec<&str> = examples.iter().map(|(name, ..)| &name[..]).collect();
-    let expected = ["edges", "exchange", "lines", "most", "orders", "streams", "three_lines"];
+    let expected =
+        ["edges", "exchange", "lines", "most", "orders", "rearranged", "streams", "three_lines"];
     assert_eq!(names, expected, "the logs in examples/");
     examples
 }
