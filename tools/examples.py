@@ -785,14 +785,22 @@ def rearranged():
         text = f"queue output {number} of each, timestamp {20 + number}"
         each(text, four, f"output {number}", lambda stream: queue(stream, OUTPUT, number, 20 + number))
 
-    log.finish("stream 1: finish input 1", 1, INPUT, 1, 0, 0, done(1, "input 1", 11))
-    log.finish("finish output 1, timestamp 31, ERR", 1, OUTPUT, 1, 1, 31, done(1, "output 1", 31, 1))
-    log.finish("finish input 2, ERR", 1, INPUT, 2, 1, 0, done(1, "input 2", 12, 1))
-    log.finish("finish output 2, timestamp 32", 1, OUTPUT, 2, 0, 32, done(1, "output 2", 32))
-    log.finish("stream 11: finish output 2, timestamp 32", 11, OUTPUT, 2, 0, 32, done(11, "output 2", 32))
-    log.finish("finish input 1", 11, INPUT, 1, 0, 0, done(11, "input 1", 11))
-    log.finish("finish input 2, ERR", 11, INPUT, 2, 1, 0, done(11, "input 2", 12, 1))
-    log.finish("finish output 1, timestamp 31, ERR", 11, OUTPUT, 1, 1, 31, done(11, "output 1", 31, 1))
+    reports = {
+        "input 1": ("finish input 1", INPUT, 1, 0, 0, 11),
+        "output 1": ("finish output 1, timestamp 31, ERR", OUTPUT, 1, 1, 31, 31),
+        "input 2": ("finish input 2, ERR", INPUT, 2, 1, 0, 12),
+        "output 2": ("finish output 2, timestamp 32", OUTPUT, 2, 0, 32, 32),
+    }
+
+    def run(stream, *order):
+        first = f"stream {stream}: "
+        for what in order:
+            text, queue_type, number, flags, timestamp, answered = reports[what]
+            log.finish(first + text, stream, queue_type, number, flags, timestamp, done(stream, what, answered, flags))
+            first = ""
+
+    run(1, "input 1", "output 1", "input 2", "output 2")
+    run(11, "output 2", "input 1", "input 2", "output 1")
     for stream in 1, 11:
         text = "finish output 1 of both again, which is not Queued now"
         log.finish(text, stream, OUTPUT, 1, 1, 31, refused(5))
@@ -807,14 +815,8 @@ def rearranged():
         log.command(f"destroy stream {stream}", destroy(stream), *stopped, ok)
 
     each("drain streams 2 and 12", (2, 12), "drain", drain)
-    log.finish("stream 2: finish input 1", 2, INPUT, 1, 0, 0, done(2, "input 1", 11))
-    log.finish("finish output 1, timestamp 31, ERR", 2, OUTPUT, 1, 1, 31, done(2, "output 1", 31, 1))
-    log.finish("finish input 2, ERR", 2, INPUT, 2, 1, 0, done(2, "input 2", 12, 1))
-    log.finish("finish output 2, timestamp 32", 2, OUTPUT, 2, 0, 32, done(2, "output 2", 32))
-    log.finish("stream 12: finish output 2, timestamp 32", 12, OUTPUT, 2, 0, 32, done(12, "output 2", 32))
-    log.finish("finish input 2, ERR", 12, INPUT, 2, 1, 0, done(12, "input 2", 12, 1))
-    log.finish("finish output 1, timestamp 31, ERR", 12, OUTPUT, 1, 1, 31, done(12, "output 1", 31, 1))
-    log.finish("finish input 1", 12, INPUT, 1, 0, 0, done(12, "input 1", 11))
+    run(2, "input 1", "output 1", "input 2", "output 2")
+    run(12, "output 2", "input 2", "output 1", "input 1")
     for stream in 2, 12:
         log.command("queue input 1 of both while draining", queue(stream, INPUT, 1, 14), operation)
     each("queue output 1 of both, timestamp 24", (2, 12), "output 1", lambda stream: queue(stream, OUTPUT, 1, 24))

@@ -126,9 +126,7 @@ module _ {A : Type 0} (p : A → Bool) where
 
   -- all of a list pass: so do all with the first two swapped, all of its parts, and the one at each place
   pub all-swap : (x y : A) (l : List A) → allOf p (x ∷ y ∷ l) ≡ true → allOf p (y ∷ x ∷ l) ≡ true
-  all-swap x y l h =
-      let rest = and-right (p x) (p y && allOf p l) h in
-      both (and-left (p y) (allOf p l) rest) (both (and-left (p x) (p y && allOf p l) h) (and-right (p y) (allOf p l) rest))
+  all-swap x y l h = let e = each-all p (x ∷ y ∷ l) h in both (e .1 .0) (both (e .0) (and-right (p y) _ (and-right (p x) _ h)))
 
   pub all-take : (k : ℕ) (l : List A) → allOf p l ≡ true → allOf p (take k l) ≡ true
   all-take zero l h = refl

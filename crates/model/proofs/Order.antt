@@ -1,26 +1,24 @@
 -- Finish reports of one stream without EOS that are accepted one after the other may come in any order.
-use mathlib.Core.HLevel.{hedberg}
 use mathlib.Core.Logic.{∥∥₁-elim}
 use mathlib.Core.Path.{_≡_, refl, sym, ap, ap₂, _∙_, subst}
-use mathlib.Core.Bool.{Bool, true, false, cond, and-true, Bool-set}
+use mathlib.Core.Bool.{Bool, true, false, cond, _&&_, and-true, Bool-set}
 use mathlib.Core.Option.{Option, none, some}
 use mathlib.Core.List.{List, [], _∷_, _++_, Perm, Perm-prop, Perm·nil, Perm·cons, Perm·swap, Perm·trans, List·Permᴰ, List·Permᴰ·nil, List·Permᴰ·cons, List·Permᴰ·swap, List·Permᴰ·trans, List·isSet}
 use Prim.Native.Nat.{ℕ, _<_}
-use native.Mathlib.Decide.{ℕ-discrete}
+use native.Mathlib.Nat.{ℕ-set}
 use native.Mathlib.Omega.{arith}
 use lib.ListN.{length, take, drop}
 use lib.Dec.{eqb}
 use borrow.Author.Tests.{eqb-true, ltb-true, le-ltb, lt-leb}
 use Rattle.laws.specs.Lists.{allOf, isNone, same}
 use Rattle.laws.proofs.Tests.{never, both, and-left, and-right}
-use Rattle.laws.proofs.Lists.{decide, each-all, all-swap, all-take}
-use Rattle.laws.proofs.Same.{same-eq, same-ne}
+use Rattle.laws.proofs.Lists.{decide, eqb-sym, each-all, all-swap, all-take}
 use Rattle.model.specs.Numbers.{tableWords}
-use Rattle.model.specs.Device.{QueueType, input, output, dequeued, Stream, Device, queueOf, withQueue, withSlots, Buffer, queuedIn, bufferOf, setState, recordOf, putBack}
+use Rattle.model.specs.Device.{QueueType, input, output, dequeued, Stream, Device, queueOf, withQueue, withSlots, Buffer, queuedIn, bufferOf, recordOf, putBack}
 use Rattle.model.specs.Frames.{queueNumber}
 use Rattle.model.specs.Answers.{bufferDone, Answer, bytesOf}
 use Rattle.model.specs.Replies.{Reply, reply}
-use Rattle.model.specs.Reports.{timestampOf, hasEos}
+use Rattle.model.specs.Reports.{timestampOf, hasEos, finishLeaves}
 use Rattle.model.specs.Steps.{Act, command, finish, drained, Step, streamOf, serve, DeviceReply, around, perform, stepOn, Event, eventOf, eventsOf, final, accepted}
 use Rattle.model.specs.Ledger.{stepStream}
 use Rattle.model.specs.WellFormed.{wellFormed, goodAct, goodSteps}
@@ -48,30 +46,31 @@ waiting q r b = bufferOf r (queuedIn (queueOf q b .slots))
 
 -- the record with that buffer Dequeued
 abbrev dequeue : QueueType → ℕ → Stream → Stream
-dequeue q r b = withQueue q (withSlots (setState r dequeued (queueOf q b .slots)) (queueOf q b)) b
+dequeue q r b = finishLeaves r 0 b q
 
 -- one buffer: one queue and one number
 abbrev alike : QueueType → QueueType → ℕ → ℕ → Bool
-alike p q m r = same (queueNumber p ∷ m ∷ []) (queueNumber q ∷ r ∷ [])
+alike p q m r = eqb (queueNumber p) (queueNumber q) && eqb m r
+
+alike-sym : (p q : QueueType) (m r : ℕ) → alike p q m r ≡ false → alike q p r m ≡ false
+alike-sym input input m r h = eqb-sym m r h
+alike-sym input output m r h = refl
+alike-sym output input m r h = refl
+alike-sym output output m r h = eqb-sym m r h
 
 -- a buffer waits as before where another is Dequeued
 still-waiting : (p q : QueueType) (m r : ℕ) (b : Stream) → waiting q r (dequeue p m b) ≡ cond (alike p q m r) none (waiting q r b)
-unfolding same
-still-waiting input input m r b = buffer-finish m r (b .inputs .slots) ∙ simp (and-true (eqb m r))
+still-waiting input input m r b = buffer-finish m r (b .inputs .slots)
 still-waiting input output m r b = refl
 still-waiting output input m r b = refl
-still-waiting output output m r b = buffer-finish m r (b .outputs .slots) ∙ simp (and-true (eqb m r))
+still-waiting output output m r b = buffer-finish m r (b .outputs .slots)
 
 -- and two are Dequeued in either order
 dequeue-commutes : (p q : QueueType) (m r : ℕ) (b : Stream) → alike p q m r ≡ false → dequeue q r (dequeue p m b) ≡ dequeue p m (dequeue q r b)
-unfolding same
-dequeue-commutes input input m r b h = ap (λ s. withQueue input (withSlots s (b .inputs)) b) (set-commutes m r dequeued dequeued (b .inputs .slots) (sym (and-true (eqb m r)) ∙ h))
+dequeue-commutes input input m r b h = ap (λ s. withQueue input (withSlots s (b .inputs)) b) (set-commutes m r dequeued dequeued (b .inputs .slots) h)
 dequeue-commutes input output m r b h = refl
 dequeue-commutes output input m r b h = refl
-dequeue-commutes output output m r b h = ap (λ s. withQueue output (withSlots s (b .outputs)) b) (set-commutes m r dequeued dequeued (b .outputs .slots) (sym (and-true (eqb m r)) ∙ h))
-
-alike-sym : (p q : QueueType) (m r : ℕ) → alike p q m r ≡ false → alike q p r m ≡ false
-alike-sym p q m r h = same-ne (queueNumber q ∷ r ∷ []) (queueNumber p ∷ m ∷ []) (λ e. never (sym (same-eq (queueNumber p ∷ m ∷ []) (queueNumber q ∷ r ∷ []) (sym e)) ∙ h))
+dequeue-commutes output output m r b h = ap (λ s. withQueue output (withSlots s (b .outputs)) b) (set-commutes m r dequeued dequeued (b .outputs .slots) h)
 
 -- A report of a run
 
@@ -152,7 +151,10 @@ record Answered (n : ℕ) (d : Device) (s : Step) : Type 0 where
   self-is : recordOf n (d .places) ≡ some self
   waits-is : waitsIn report self ≡ some buffer
 
-module _ (n : ℕ) (d : Device) (s : Step) (h : wellFormed d ≡ true) (m : goodAct (s .act) ≡ true) (acc : accepted (eventOf s (stepOn d s)) ≡ true) where
+module _ (n : ℕ) (d : Device) (s : Step) (h : wellFormed d ≡ true) (m : goodAct (s .act) ≡ true) (run : finishedWithoutEos n (eventOf s (stepOn d s)) ≡ true) where
+  acc : accepted (eventOf s (stepOn d s)) ≡ true
+  acc = and-right (withoutEos n (s .act)) _ run
+
   enough-room : eqb (roomRefusal s) 0 ≡ true
   unfolding accepted
   enough-room =
@@ -182,13 +184,14 @@ module _ (n : ℕ) (d : Device) (s : Step) (h : wellFormed d ≡ true) (m : good
         waits-is = t .waits-is;
       })
 
-  found : withoutEos n (s .act) ≡ true → Answered n d s
-  found = of (s .act) refl
+  found : Answered n d s
+  found = of (s .act) refl (and-left (withoutEos n (s .act)) _ run)
     where
       of : (a : Act) → s .act ≡ a → withoutEos n a ≡ true → Answered n d s
       of (command t f) is e = never (sym e)
       of (finish k qt r flags ts) is e =
           let mine : s .act ≡ finish n qt r flags ts = is ∙ ap (λ (z : ℕ). finish z qt r flags ts) (eqb-true k n (and-left (eqb k n) _ e)) in
+          -- by omega, so that another bound in the statement is refused for its number
           let below : flags < _ = ltb-true flags _ (and-right (eqb k n) _ e) in
           let low : flags < 2 = omega (arith, below) in
           of-finish qt r flags ts mine low (subst (λ (a : Act). acceptedReply (servedAs a) ≡ true) mine (step-taken d s h m acc .replied))
@@ -204,6 +207,7 @@ module _ (n : ℕ) (d : Device) (s u : Step) where
 
   -- the second was of another buffer, which waited before too; and so does that of the first after it
   swapped-reports : (x : Report n s) (y : Report n u) (b : Stream) (i j : Buffer) → recordOf n (d .places) ≡ some b → waitsIn x b ≡ some i → waitsIn y (leavesOf x b) ≡ some j → SwappedOn
+  unfolding same
   swapped-reports x y b i j self first second =
       let y-waits = still-waiting (x .queue) (y .queue) (x .number) (y .number) b in
       let x-waits = still-waiting (y .queue) (x .queue) (y .number) (x .number) b in
@@ -213,19 +217,17 @@ module _ (n : ℕ) (d : Device) (s u : Step) where
       let there = both-do x y d b i j self first second in
       let back = both-do y x d b j i self (sym (y-waits ∙ simp e) ∙ second) ((x-waits ∙ simp (alike-sym (x .queue) (y .queue) (x .number) (y .number) e)) ∙ first) in
       record {
-        differ = ap₂ (λ (v w : Act). same (bufferNamed v) (bufferNamed w)) (x .act-is) (y .act-is) ∙ e;
+        differ = ap₂ (λ (v w : Act). same (bufferNamed v) (bufferNamed w)) (x .act-is) (y .act-is) ∙ simp (and-true (eqb (x .number) (y .number))) e;
         device = back .device ∙ ap (λ (c : Stream). putBack n (some c) d) (sym (dequeue-commutes (x .queue) (y .queue) (x .number) (y .number) b e)) ∙ sym (there .device);
         events = back .events ∙ ap swapped (sym (there .events));
       })
 
   swapped-on : wellFormed d ≡ true → goodSteps (s ∷ u ∷ []) ≡ true → allOf (finishedWithoutEos n) (eventsOf d (s ∷ u ∷ [])) ≡ true → SwappedOn
   swapped-on h m run =
-      let left = stepOn d s .device in
       let good = each-all goodStep (s ∷ u ∷ []) m in
       let each = each-all (finishedWithoutEos n) (eventsOf d (s ∷ u ∷ [])) run in
-      let first = found n d s h (good .0) (and-right (withoutEos n (s .act)) _ (each .0)) (and-left (withoutEos n (s .act)) _ (each .0)) in
-      let second =
-      found n left u (stays-well-formed d s h (good .0)) (good .1 .0) (and-right (withoutEos n (u .act)) _ (each .1 .0)) (and-left (withoutEos n (u .act)) _ (each .1 .0)) in
+      let first = found n d s h (good .0) (each .0) in
+      let second = found n (stepOn d s .device) u (stays-well-formed d s h (good .0)) (good .1 .0) (each .1 .0) in
       let b = first .self in
       let x = first .report in
       let same-record : some (second .self) ≡ some (leavesOf x b) =
@@ -286,7 +288,7 @@ module _ (L : Layout) (law : Lawful L) where
             inTurn = ap (allOf (finishedWithoutEos n)) events ∙ all-swap (finishedWithoutEos n) e f rest (run .inTurn);
           };
           sameTable = ap (λ (x : List ℕ). tableFinal L x ss) (two .sameTable);
-          sameAnswers = subst (λ (x : List Event). Perm x (e ∷ f ∷ rest)) (sym events) (Perm·swap e f rest);
+          sameAnswers = subst (Perm (e ∷ f ∷ rest)) (sym events) (Perm·swap f e rest);
         }
 
     -- by how it is rearranged
@@ -301,7 +303,7 @@ module _ (L : Layout) (law : Lawful L) where
     rearranged t ss us (List·Permᴰ·trans {l₂ = ms} p q) v run =
         let one = rearranged t ss ms p v run in
         let two = rearranged t ms us q v (one .alsoRun) in
-        record { alsoRun = two .alsoRun; sameTable = two .sameTable ∙ one .sameTable; sameAnswers = Perm·trans (two .sameAnswers) (one .sameAnswers) }
+        record { alsoRun = two .alsoRun; sameTable = two .sameTable ∙ one .sameTable; sameAnswers = Perm·trans (one .sameAnswers) (two .sameAnswers) }
 
   -- `Perm` says that there is a way to rearrange, and not which; of what is promised there is one proof, so that any will do
   one-proof : (t : List ℕ) (n : ℕ) (ss us : List Step) → IsProp (Rearranged L t n ss us)
@@ -310,7 +312,7 @@ module _ (L : Layout) (law : Lawful L) where
       inTypes = Bool-set _ _ (x .alsoRun .inTypes) (y .alsoRun .inTypes) i;
       inTurn = Bool-set _ _ (x .alsoRun .inTurn) (y .alsoRun .inTurn) i;
     };
-    sameTable = List·isSet (hedberg ℕ-discrete) _ _ (x .sameTable) (y .sameTable) i;
+    sameTable = List·isSet ℕ-set _ _ (x .sameTable) (y .sameTable) i;
     sameAnswers = Perm-prop (x .sameAnswers) (y .sameAnswers) i;
   }
 

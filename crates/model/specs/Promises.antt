@@ -210,7 +210,7 @@ NoDrainAfterEos L =
 
 -- Order inside one stream: finish reports without EOS that are accepted one after the other may come in any order. The numbers are written out here too.
 
--- a finish report of the stream n without EOS: its flags are 0, or 1 for ERR. Flags above 3 are never accepted.
+-- a finish report of the stream n without EOS: its flags are 0, or 1 for ERR; 2 and 3 have EOS, and above 3 none is accepted
 abbrev pub withoutEos : ℕ → Act → Bool
 withoutEos n (command t f) = false
 withoutEos n (finish m qt r flags ts) = eqb m n && ltb flags 2
@@ -220,7 +220,7 @@ withoutEos n (drained m) = false
 abbrev pub finishedWithoutEos : ℕ → Event → Bool
 finishedWithoutEos n e = withoutEos n (e .step .act) && accepted e
 
--- a run of them on a table, each accepted in its turn
+-- a run of them on a table: arguments within the host's types, each report accepted in its turn
 pub record FinishRun (L : Layout) (t : List ℕ) (n : ℕ) (ss : List Step) : Type 0 where
   pub inTypes : goodSteps ss ≡ true
   pub inTurn : allOf (finishedWithoutEos n) (tableEvents L t ss) ≡ true
@@ -237,7 +237,7 @@ swapped l = reverse l
 
 -- two reports of a run: they are of different buffers, and the other way round they are a run too, which leaves the same table, with the words behind the used ones, and
 -- gives the same two results and answers, swapped
-pub record Swapped (L : Layout) (t : List ℕ) (n : ℕ) (s u : Step) : Type 0 where
+pub record EitherFirst (L : Layout) (t : List ℕ) (n : ℕ) (s u : Step) : Type 0 where
   pub differ : same (bufferNamed (s .act)) (bufferNamed (u .act)) ≡ false
   pub alsoRun : FinishRun L t n (u ∷ s ∷ [])
   pub sameTable : tableFinal L t (u ∷ s ∷ []) ≡ tableFinal L t (s ∷ u ∷ [])
@@ -245,14 +245,14 @@ pub record Swapped (L : Layout) (t : List ℕ) (n : ℕ) (s u : Step) : Type 0 w
 
 -- from any valid table
 abbrev pub FinishesSwap : Layout → Type 0
-FinishesSwap L = (t : List ℕ) (n : ℕ) (s u : Step) → valid L t ≡ true → FinishRun L t n (s ∷ u ∷ []) → Swapped L t n s u
+FinishesSwap L = (t : List ℕ) (n : ℕ) (s u : Step) → valid L t ≡ true → FinishRun L t n (s ∷ u ∷ []) → EitherFirst L t n s u
 
 -- a run in another order: it is a run too, which leaves the same table, and its steps with their results and bytes are those of the first, in another order
 pub record Rearranged (L : Layout) (t : List ℕ) (n : ℕ) (ss us : List Step) : Type 0 where
   pub alsoRun : FinishRun L t n us
   pub sameTable : tableFinal L t us ≡ tableFinal L t ss
-  pub sameAnswers : Perm (tableEvents L t us) (tableEvents L t ss)
+  pub sameAnswers : Perm (tableEvents L t ss) (tableEvents L t us)
 
--- from any valid table, for every rearrangement
+-- from any valid table, for every rearrangement: `Perm` is the library's, made of swaps of neighbours
 abbrev pub AnyOrder : Layout → Type 0
 AnyOrder L = (t : List ℕ) (n : ℕ) (ss us : List Step) → valid L t ≡ true → FinishRun L t n ss → Perm ss us → Rearranged L t n ss us

@@ -16,6 +16,7 @@ use independent::layout::{
     self, Broken, BLOCK, DRAIN_AT, FIGURES_AT, INPUT_AT, MARKS_AT, OUTPUT_AT, SPENT_AT, SPENT_END,
     TOTAL_AT, UNUSED_AT, WORDS,
 };
+use independent::lent::{difference, Room};
 use independent::on_words::{Core, OnWords, Outcome};
 use independent::pending::{by_records, by_words, Book, Question};
 use independent::pending_slips;
@@ -483,41 +484,6 @@ fn expect(table: &mut [u32], device: Option<&mut Device>, act: &Act, room: usize
         layout::write(device, &mut table[..WORDS]);
     }
     done
-}
-
-/// An answer room amid other bytes, at any address.
-struct Room {
-    bytes: Vec<u8>,
-    start: usize,
-    end: usize,
-}
-
-impl Room {
-    fn new(generator: &mut Generator, short: bool) -> Room {
-        let length = generator.room(short);
-        let start = generator.rng.below(8);
-        let mut bytes = vec![0; start + length + 8];
-        // One of 256 patterns, which is cheap, shows a changed byte as well as noise would.
-        bytes.fill(generator.rng.word() as u8);
-        Room { end: start + length, bytes, start }
-    }
-
-    fn lent(&mut self) -> &mut [u8] {
-        &mut self.bytes[self.start..self.end]
-    }
-}
-
-/// The first place where two slices differ.
-fn difference<T: PartialEq + fmt::LowerHex>(
-    what: &str,
-    found: &[T],
-    expected: &[T],
-) -> Option<String> {
-    if found == expected {
-        return None;
-    }
-    let at = found.iter().zip(expected).position(|(found, expected)| found != expected)?;
-    Some(format!("{what} {at} is {:#x}, expected {:#x}", found[at], expected[at]))
 }
 
 /// Each stream number, and some that none can be, on a table where it alone is spent, and on one

@@ -12,6 +12,7 @@ use independent::by_hand;
 use independent::device::*;
 use independent::frames;
 use independent::layout::WORDS;
+use independent::lent::{difference, Room};
 use independent::on_words::{Core, OnWords, Outcome};
 use independent::order_slips;
 use independent::program::variable;
@@ -151,13 +152,6 @@ struct Turn {
     room: Room,
 }
 
-/// An answer room amid other bytes, at any address, all of them noise.
-#[derive(Clone, Debug, PartialEq)]
-struct Room {
-    bytes: Vec<u8>,
-    start: usize,
-}
-
 /// What comes of a run: what each report gives back and its room, by its place in the run whatever
 /// the order was, and the table.
 struct End {
@@ -188,29 +182,6 @@ impl Run {
     }
 }
 
-impl Room {
-    /// Bytes before it and behind it.
-    const BESIDE: usize = 8;
-
-    fn new(rng: &mut Rng) -> Room {
-        let more = rng.below(1_000);
-        let length = ROOM + rng.pick(&[0, 0, 1, more]);
-        let start = rng.below(Room::BESIDE);
-        let mut bytes = vec![0; start + length + Room::BESIDE];
-        rng.fill(&mut bytes);
-        Room { bytes, start }
-    }
-
-    fn length(&self) -> usize {
-        self.bytes.len() - self.start - Room::BESIDE
-    }
-
-    fn lent(&mut self) -> &mut [u8] {
-        let length = self.length();
-        &mut self.bytes[self.start..][..length]
-    }
-}
-
 impl End {
     /// Where another end is not the same.
     fn parts(&self, other: &End) -> Option<String> {
@@ -218,19 +189,12 @@ impl End {
             if one.0 != other.0 {
                 return Some(format!("report {at}: {:?} and {:?}", one.0, other.0));
             }
-            if let Some(byte) = difference(&one.1.bytes, &other.1.bytes) {
-                let start = one.1.start;
-                return Some(format!("report {at}: byte {byte} (the room starts at {start})"));
+            if let Some(what) = difference("byte", &one.1.bytes, &other.1.bytes) {
+                return Some(format!("report {at}: {what}"));
             }
         }
-        difference(&self.table, &other.table).map(|word| format!("word {word}"))
+        difference("word", &self.table, &other.table)
     }
-}
-
-/// The first place where two slices of one length differ.
-fn difference<T: PartialEq>(one: &[T], other: &[T]) -> Option<usize> {
-    assert_eq!(one.len(), other.len());
-    one.iter().zip(other).position(|(one, other)| one != other)
 }
 
 /// The property: where a run, whose reports are accepted one after the other in the first of these
@@ -319,7 +283,7 @@ fn turns(generator: &mut Generator, stream: u32, mut buffers: Vec<(u32, u32)>) -
         let flags = if generator.rng.percent(err) { ERR } else { 0 };
         let timestamp = generator.timestamp();
         let report = Report { stream, queue_type, resource, flags, timestamp };
-        Turn { report, room: Room::new(&mut generator.rng) }
+        Turn { report, room: Room::new(generator, false) }
     };
     buffers.into_iter().map(turn).collect()
 }
@@ -331,7 +295,7 @@ type Names = Vec<(Why, bool)>;
 fn names(device: &Device, run: &Run) -> Names {
     let reports: Vec<Report> = run.turns.iter().map(|turn| turn.report).collect();
     let stream = device.stream(reports[0].stream).expect("a live stream");
-    let rooms = || run.turns.iter().map(|turn| turn.room.length());
+    let rooms = || run.turns.iter().map(|turn| turn.room.clone().lent().len());
     let others = device.streams().count() > 1;
     let rest = vec![
         ("other live streams", others),

@@ -17,6 +17,7 @@ pub mod device;
 pub mod drains;
 pub mod frames;
 pub mod layout;
+pub mod lent;
 pub mod log;
 pub mod log_slips;
 pub mod on_words;

@@ -363,8 +363,7 @@ impl Slip {
             | Slip::FreshFills(_)
             | Slip::FreshKeepsSpent
             | Slip::FreshAllWords
-            | Slip::Pending(_)
-            | Slip::Order(_) => true,
+            | Slip::Pending(_) => true,
             Slip::Skipped(_, why) => why == "answer buffer under 1,056 bytes",
             Slip::First(_, why) => why == "command under 8 bytes",
             _ => false,
