@@ -6,7 +6,7 @@ ghost use Rattle.checker.specs.Meant.{kind_meant};
 use line::{Decoded, LINE_ROOM};
 
 // A frame is a question.
-#[derive(Drop)]
+#[derive(Clone, Copy)]
 pub enum LineKind {
     QuestionKind,
     AnswerKind,

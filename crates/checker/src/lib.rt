@@ -1,5 +1,7 @@
 // The checker of other makers' logs: lines out of a whole log or out of pieces, and a verdict. But for making its table fresh, its only way to the core
 // is a line's step in `replay`.
+#![tactic(auto)]
+
 ghost use Rattle.std.specs.Prelude.{◌≡◌, List, [], ℕ, ◌<◌, ◌≤◌, length, take};
 ghost use Rattle.table.specs.Blocks.{layout};
 ghost use Rattle.log_verdict.specs.Checking.{right_so_far, conclude, log_verdict, fault_number};
@@ -16,7 +18,7 @@ mod pieces;
 mod whole;
 
 // What is wrong with a line, or with the end of the log.
-#[derive(Drop)]
+#[derive(Clone, Copy)]
 pub enum Fault {
     MissingAnswer,
     ExtraAnswer,
@@ -26,13 +28,13 @@ pub enum Fault {
 
 // How the check stands before a line. Where nothing was wrong so far: the number of the line, and where in the text of the last question's answers
 // those that are due begin and end. Else the first wrong line.
-#[derive(Drop)]
+#[derive(Clone, Copy)]
 pub enum CheckState {
     RightSoFar { line: u64, at: usize, end: usize },
     StoppedAt { fault: Fault, line: u64 },
 }
 
-#[derive(Drop)]
+#[derive(Clone, Copy)]
 pub enum LogVerdict {
     AcceptedLog,
     WrongLine { fault: Fault, line: u64 },
@@ -40,14 +42,14 @@ pub enum LogVerdict {
 
 // A verdict as it crosses to the host: the line that is named, or 0, and the verdict's number.
 #[repr(C)]
-#[derive(Drop)]
+#[derive(Clone, Copy)]
 pub struct NumberedVerdict {
     pub line: u64,
     pub verdict: u32,
 }
 
 // What a call on a piece did: the bytes used of it, the bytes kept of the line that has not ended, how the check stands.
-#[derive(Drop)]
+#[derive(Clone, Copy)]
 pub struct TakenPiece {
     pub used: usize,
     pub have: usize,

@@ -1,6 +1,8 @@
 // The command core of a virtio-video decoder, for a host that links it: four functions of a device, two questions to it and one function of logs, safe on any
 // bytes and words. Each states its whole outcome by one equation: the four to the model, `freshen` and `effect` of crates/model/specs/Tables, and the check of a log to
 // `log_verdict` of crates/log_verdict/specs/Checking, over the layout of crates/table/specs/Blocks; the questions to crates/table/specs/Figures.
+#![tactic(auto)]
+
 ghost use Rattle.std.specs.Prelude.{◌≡◌};
 ghost use Rattle.model.specs.Steps.{command, finish, drained};
 ghost use Rattle.model.specs.Tables.{freshen, effect};

@@ -230,7 +230,7 @@ replied_as {n} {r} {w = w} {room = room} {room' = room'} is x = subst (λ v. Rep
 
 -- what a search of the places found
 module _ {words : List ℕ} {d : Device} (h : Encodes words d) {r : Found} where
-  module _ {n : ℕ} (look : (d : Device) → Encodes words d → found_at r ≡ find_stream n d.places) where
+  module _ (n : ℕ) (look : (d : Device) → Encodes words d → found_at r ≡ find_stream n d.places) where
     pub was_found : (k : ℕ) → r ≡ At k → find_stream n d.places ≡ some k
     was_found k e = sym (look d h) ∙ ap found_at e
 

@@ -1,4 +1,6 @@
 // Little-endian fields of 2, 4 and 8 bytes: read from a part of a frame, and written into a lent buffer.
+#![tactic(auto)]
+
 ghost use Rattle.std.specs.Prelude.{◌≡◌, ◌+◌, ◌≤◌, length};
 ghost use Rattle.std.proofs.lemmas.List.Edits.{sets};
 ghost use Rattle.field.specs.Field.{field, little_endian};

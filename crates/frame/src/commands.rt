@@ -4,7 +4,7 @@ ghost use Rattle.model.specs.Frames.{rule_of};
 ghost use Rattle.frame.specs.Meant.{verdict, verdict_of, rule_verdict};
 
 // The commands to a queue of a live stream.
-#[derive(Drop)]
+#[derive(Clone, Copy)]
 pub enum QueueCommand {
     CreateResource,
     QueueResource,
@@ -15,7 +15,7 @@ pub enum QueueCommand {
 }
 
 // The commands to a live stream.
-#[derive(Drop)]
+#[derive(Clone, Copy)]
 pub enum LiveCommand {
     Destroy,
     Drain,
@@ -24,14 +24,14 @@ pub enum LiveCommand {
 }
 
 // All commands: a creation, or one to a live stream.
-#[derive(Drop)]
+#[derive(Clone, Copy)]
 pub enum Command {
     Create,
     Live(LiveCommand),
 }
 
 // A rule of the table of commands: the length of the frame, and the command.
-#[derive(Drop)]
+#[derive(Clone, Copy)]
 pub enum CommandRule {
     Exactly(usize, Command),
     AtLeast(usize, Command),
@@ -39,7 +39,7 @@ pub enum CommandRule {
 }
 
 // What the type and the length of a frame say: an unknown type, a length that the command cannot have, or the command.
-#[derive(Drop)]
+#[derive(Clone, Copy)]
 pub enum Checked {
     Unknown,
     Wrong,

@@ -1,4 +1,6 @@
 // Checks of a command's frame: its type and length, and the fields of its payload, which is read as the part of the frame from offset 8 and never copied.
+#![tactic(auto)]
+
 ghost use Rattle.std.specs.Prelude.{◌≡◌, ◌+◌, ◌*◌, ◌≤◌, not, length, take};
 ghost use Rattle.laws.specs.Lists.{total};
 ghost use Rattle.tag.specs.Tag.{good_tag, tag_in};

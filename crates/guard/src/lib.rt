@@ -1,5 +1,7 @@
 // Steps on whatever the host lends: its first tests, then the step on the used words of the table. What stands behind them is never lent on.
 // Each states its whole outcome by one equation to the model: `effect` of crates/model/specs/Tables, over the layout of crates/table/specs/Blocks.
+#![tactic(auto)]
+
 ghost use Rattle.std.specs.Prelude.{◌≡◌, length};
 ghost use Rattle.model.specs.Steps.{command, finish, drained, host_refusal};
 ghost use Rattle.model.specs.Tables.{valid, effect};

@@ -7,7 +7,7 @@ use native.Mathlib.Numerals.{add-one}
 use native.Mathlib.Decide.{le_ind}
 use native.Mathlib.Omega.{arith}
 use lib.Dec.{leb, ltb, eqb}
-use borrow.Author.Tests.{le-leb, lt-leb, leb-true, le-ltb, ltb-false, eq-eqb, ne_eqb, not-true, not-false}
+use borrow.Author.Tests.{le-leb, lt-leb, leb-true, le-ltb, ltb-false, eq-eqb, ne_eqb, not-true}
 use Rattle.laws.specs.Tests.{within, all_below, lowest_below}
 
 -- a test is not true and false
@@ -44,12 +44,12 @@ and_fails a b e = rw e
 pub and_holds : (a b r : Bool) → a ≡ true → r ≡ b → r ≡ a && b
 and_holds a b r e h = rw e h
 
--- what a callee tested, where the code goes on by its negation
-pub was_true : {r t : Bool} → r ≡ t → not r ≡ false → t ≡ true
-was_true {r} p q = sym p ∙ not-false r q
+-- what a callee tested, where the code goes on by it
+pub was_true : {r t : Bool} → r ≡ t → r ≡ true → t ≡ true
+was_true p q = sym p ∙ q
 
-pub was_false : {r t : Bool} → r ≡ t → not r ≡ true → t ≡ false
-was_false {r} p q = sym p ∙ not-true r q
+pub was_false : {r t : Bool} → r ≡ t → r ≡ false → t ≡ false
+was_false p q = sym p ∙ q
 
 -- what the code tested of the number r, which is n
 pub same_test : {r n m : ℕ} → r ≡ n → r ≡ m → eqb n m ≡ true

@@ -157,10 +157,10 @@ shows_events_lem L law log =
 
 -- A line's step, in any room that is long enough, and a refused line
 
-pub line_step : (L : Layout) (t line room : List ℕ) (a : Act) → line_of line ≡ step_line a → answer_room ≤ length room → line_step L t line ≡ stepped (effect L t a room)
+pub line_step_lem : (L : Layout) (t line room : List ℕ) (a : Act) → line_of line ≡ step_line a → answer_room ≤ length room → line_step L t line ≡ stepped (effect L t a room)
 unfolding line_step
-line_step L t line room a e h = ap (on_line L t) e ∙ room_free_lem L t a (zeros answer_room) room (omega (arith, zero_length answer_room)) h
+line_step_lem L t line room a e h = ap (on_line L t) e ∙ room_free_lem L t a (zeros answer_room) room (omega (arith, zero_length answer_room)) h
 
-pub line_refused : (L : Layout) (t line : List ℕ) (k : ℕ) → line_of line ≡ refused_line k → line_step L t line ≡ record { text = refusal_line k; table = t }
+pub line_refused_lem : (L : Layout) (t line : List ℕ) (k : ℕ) → line_of line ≡ refused_line k → line_step L t line ≡ record { text = refusal_line k; table = t }
 unfolding line_step
-line_refused L t line k e = ap (on_line L t) e
+line_refused_lem L t line k e = ap (on_line L t) e

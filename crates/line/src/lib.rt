@@ -1,4 +1,6 @@
 // The log's lines: hexadecimal text to a step or a refusal and back, and lines split from what is read in pieces.
+#![tactic(auto)]
+
 mod decoding;
 mod hex;
 mod splitting;
@@ -12,7 +14,7 @@ pub use writing::{put_outcome, put_refusal};
 const NEWLINE: u8 = 10;
 
 // A frame. A command's bytes stand in the buffer that was lent, from its start.
-#[derive(Drop)]
+#[derive(Clone, Copy)]
 pub enum Frame {
     Command {
         ticket: u32,
@@ -31,14 +33,14 @@ pub enum Frame {
 }
 
 // What a line stands for: a frame, or no frame, which is refusal 7.
-#[derive(Drop)]
+#[derive(Clone, Copy)]
 pub enum Decoded {
     Framed(Frame),
     NoFrame,
 }
 
 // What was taken of a piece: whether a line ended, how many bytes were used, and how many of the line are kept.
-#[derive(Drop)]
+#[derive(Clone, Copy)]
 pub struct Gathered {
     pub ended: bool,
     pub used: usize,

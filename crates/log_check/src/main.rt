@@ -1,17 +1,20 @@
 // The program that checks a log: standard input to one line of standard output, from a fresh table, in fixed memory. All that it does with what it
 // reads is in `checker`.
+#![tactic(auto)]
+
 use checker::{CheckState, Fault, LogVerdict};
-use libc::{STDERR_FILENO, STDIN_FILENO, STDOUT_FILENO};
+use std::io;
+use std::io::{Read, Write};
 
 // What is known between two reads: the bytes that are kept of a line that has not ended, and how the check stands.
-#[derive(Drop)]
+#[derive(Clone, Copy)]
 struct Position {
     have: usize,
     state: CheckState,
 }
 
 // How far the log was read: there may be more, or the verdict stands, since the log has ended or a line was wrong; or a read failed.
-#[derive(Drop)]
+#[derive(Clone, Copy)]
 enum Progress {
     More(Position),
     Enough(Position),
@@ -57,17 +60,16 @@ fn going_on(position: Position) -> Progress {
 
 // Reads once, and checks what came.
 fn read_once(
+    input: &mut impl Read,
     table: &mut [u32],
     text: &mut [u8; 2112],
     held: &mut [u8; 8379],
     position: Position,
 ) -> Progress {
-    let mut piece = io::buffer();
-    let got = libc::read(STDIN_FILENO, &mut piece);
-    if got < 0 {
+    let mut piece = [0u8; 4096];
+    let Ok(n) = input.read(&mut piece) else {
         return Progress::Unread;
-    }
-    let n = io::count(got, &piece);
+    };
     if n == 0 {
         return Progress::Enough(position);
     }
@@ -75,14 +77,19 @@ fn read_once(
 }
 
 // A proved loop has to end, and nothing says that the input does. So the loop counts its turns down, from a number that no run uses up.
-fn read_all(table: &mut [u32], text: &mut [u8; 2112], held: &mut [u8; 8379]) -> Progress {
+fn read_all(
+    input: &mut impl Read,
+    table: &mut [u32],
+    text: &mut [u8; 2112],
+    held: &mut [u8; 8379],
+) -> Progress {
     let mut turns = u64::MAX;
     let mut position = Position {
         have: 0,
         state: checker::opening(),
     };
     while turns > 0 {
-        let progress = read_once(table, text, held, position);
+        let progress = read_once(input, table, text, held, position);
         let Progress::More(next) = progress else {
             return progress;
         };
@@ -93,49 +100,43 @@ fn read_all(table: &mut [u32], text: &mut [u8; 2112], held: &mut [u8; 8379]) -> 
 }
 
 // Writes the name of a fault, and byte 10.
-fn write_fault(fault: Fault) -> bool {
+fn write_fault(output: &mut impl Write, fault: Fault) -> io::Result<()> {
     match fault {
-        Fault::MissingAnswer => io::write_all(STDOUT_FILENO, b"missing\n"),
-        Fault::ExtraAnswer => io::write_all(STDOUT_FILENO, b"extra\n"),
-        Fault::DifferentAnswer => io::write_all(STDOUT_FILENO, b"different\n"),
-        Fault::LineRefused => io::write_all(STDOUT_FILENO, b"refused 7\n"),
+        Fault::MissingAnswer => output.write_all(b"missing\n"),
+        Fault::ExtraAnswer => output.write_all(b"extra\n"),
+        Fault::DifferentAnswer => output.write_all(b"different\n"),
+        Fault::LineRefused => output.write_all(b"refused 7\n"),
     }
 }
 
-// Writes the verdict in one line; says whether it could.
-fn write_verdict(verdict: LogVerdict) -> bool {
+// Writes the verdict in one line.
+fn write_verdict(output: &mut impl Write, verdict: LogVerdict) -> io::Result<()> {
     let LogVerdict::WrongLine { fault, line } = verdict else {
-        return io::write_all(STDOUT_FILENO, b"accepted\n");
+        return output.write_all(b"accepted\n");
     };
-    if !io::write_all(STDOUT_FILENO, b"line ") {
-        return false;
-    }
-    if !io::print_decimal(STDOUT_FILENO, line) {
-        return false;
-    }
-    if !io::write_all(STDOUT_FILENO, b": ") {
-        return false;
-    }
-    write_fault(fault)
+    write!(output, "line {line}: ")?;
+    write_fault(output, fault)
 }
 
-fn main() {
+fn main(rt: HostRuntime) {
     let mut table = [0u32; table::TABLE_WORDS];
     table::fresh(&mut table);
     let mut text = [0u8; 2112];
     let mut held = [0u8; 8379];
-    let progress = read_all(&mut table, &mut text, &mut held);
+    let progress = read_all(&mut rt.stdin(), &mut table, &mut text, &mut held);
+    // Where even a message cannot be written, there is nobody to tell.
     let Progress::Enough(position) = progress else {
-        io::write_all(
-            STDERR_FILENO,
-            b"log_check: the log cannot be read to its end\n",
-        );
+        let _ = rt
+            .stderr()
+            .write_all(b"log_check: the log cannot be read to its end\n");
         return;
     };
     let have = position.have;
     let state = position.state;
     let verdict = checker::last_verdict(&mut table, &mut text, &held, have, state);
-    if !write_verdict(verdict) {
-        io::write_all(STDERR_FILENO, b"log_check: the verdict cannot be written\n");
+    if write_verdict(&mut rt.stdout(), verdict).is_err() {
+        let _ = rt
+            .stderr()
+            .write_all(b"log_check: the verdict cannot be written\n");
     }
 }

@@ -10,7 +10,7 @@ use Rattle.laws.proofs.Lists.{decide}
 use Rattle.model.specs.Tables.{Layout}
 use Rattle.line.specs.Split.{lines_in}
 use Rattle.line.specs.Log.{line_step, fresh_table}
-use Rattle.line.proofs.Shown.{line_refused}
+use Rattle.line.proofs.Shown.{line_refused_lem}
 use Rattle.log_verdict.specs.Kinds.{in_lower_case, same_line, LineKind, question_kind, answer_kind, neither_kind, kind_of, question_by, answer_by, is_question, is_answer}
 use Rattle.log_verdict.specs.Checking.{LogVerdict, accepted_log, wrong_line, Fault, right_so_far, stopped_at, answers_on, check_by, check_line, check_lines, opening, conclude, log_verdict}
 use Rattle.log_verdict.specs.Accepted.{answers_first, table_from, Accepted}
@@ -36,7 +36,7 @@ stopped_never L f n lines e = wrong_never (ap (conclude) (sym (stopped_all L f n
 
 -- an answer leaves the table
 pub answer_leaves : (L : Layout) (t line : List ℕ) → kind_of line ≡ answer_kind → (line_step L t line).table ≡ t
-answer_leaves L t line k = ap (λ s. s.table) (line_refused L t line 7 (answer_none line k))
+answer_leaves L t line k = ap (λ s. s.table) (line_refused_lem L t line 7 (answer_none line k))
 
 -- what has a line is not empty
 pub no_line : {P : Type 0} (before : List (List ℕ)) (line : List ℕ) (others : List (List ℕ)) → [] ≡ before ++ (line ∷ others) → P

@@ -202,12 +202,24 @@ clears qt w = is_buffer_of qt w || (eqb qt 0x100 && is_drain w)
 clear_held : (q : QueueType) (b : Stream)
     → holding (some (with_queue q (cleared (queue_of q b)) (without_ended (is_input q) b))) ≡ view_after (clears (queue_number q)) none 0 true (holding (some b))
 unfolding holding
-clear_held input b =
-    view_with input (cleared b.inputs) (with_drain none b) _ _ (ap by_resource (queued_stop b.inputs.slots) ∙ sym (keep_const false (buffers input b)))
-    (λ o. elim o [ input ↦ λ h. never h | output ↦ λ h. sym (keep_const true (buffers output b)) ]) refl
-clear_held output b =
-    view_with output (cleared b.outputs) b _ _ (ap by_resource (queued_stop b.outputs.slots) ∙ sym (keep_const false (buffers output b)))
-    (λ o. elim o [ input ↦ λ h. sym (keep_const true (buffers input b)) | output ↦ λ h. never h ]) refl
+clear_held q b = held q
+  where
+    left : QueueType → QueueType → List Buffer
+    left x o = (view_after (clears (queue_number x)) none 0 true (holding (some b))).queued o
+
+    undrained : QueueType → Stream
+    undrained input = with_drain none b
+    undrained output = b
+
+    other : (x o : QueueType) → eqb (queue_number x) (queue_number o) ≡ false → buffers o (undrained x) ≡ left x o
+    other input input h = never h
+    other input output h = sym (keep_const true (buffers output b))
+    other output input h = sym (keep_const true (buffers input b))
+    other output output h = never h
+
+    held : (x : QueueType) → holding (some (with_queue x (cleared (queue_of x b)) (without_ended (is_input x) b))) ≡ view_after (clears (queue_number x)) none 0 true (holding (some b))
+    held input = view_with input (cleared b.inputs) (undrained input) (left input) _ (ap by_resource (queued_stop b.inputs.slots) ∙ sym (keep_const false (buffers input b))) (other input) refl
+    held output = view_with output (cleared b.outputs) (undrained output) (left output) _ (ap by_resource (queued_stop b.outputs.slots) ∙ sym (keep_const false (buffers output b))) (other output) refl
 
 clear_told : (q : QueueType) (n t : ℕ) (b : Stream)
     → answer_tickets (stopped_answers n q (buffers q b) ++ (drain_answers n (drain_ended (is_input q) b) ++ record { ticket = t; stream = n; response = success } ∷ []))

@@ -105,8 +105,14 @@ replace_self n (vacant ∷ ps) h = ap (λ x. vacant ∷ x) (replace_self n ps h)
 replace_self n (occupied m b ∷ ps) h =
     let here = alone_head m b ps h in
     decide (eqb m n)
-    (λ e. simp (e, replace_absent n (some b) ps (subst (λ (x : ℕ). is_none (record_of x ps) ≡ true) (eqb-true m n e) here)) (ap (λ x. occupied x b ∷ ps) (sym (eqb-true m n e))))
-    (λ e. simp e (ap (λ x. occupied m b ∷ x) (replace_self n ps (alone_tail m b ps h))))
+    (λ e. simp (e, replace_absent n (record_of n (occupied m b ∷ ps)) ps (subst (λ (x : ℕ). is_none (record_of x ps) ≡ true) (eqb-true m n e) here)) (ap (λ x. occupied x b ∷ ps) (sym (eqb-true m n e))))
+    (λ e.
+    let other : record_of n (occupied m b ∷ ps) ≡ record_of n ps = simp e in
+    subst (λ (r : Option Stream). replace n r (occupied m b ∷ ps) ≡ occupied m b ∷ ps) (sym other) (behind e (record_of n ps) (replace_self n ps (alone_tail m b ps h))))
+  where
+    behind : eqb m n ≡ false → (r : Option Stream) → replace n r ps ≡ ps → replace n r (occupied m b ∷ ps) ≡ occupied m b ∷ ps
+    behind e none same = simp e (ap (λ x. occupied m b ∷ x) same)
+    behind e (some c) same = simp e (ap (λ x. occupied m b ∷ x) same)
 
 pub put_self : (n : ℕ) (ps : List Place) → distinct_places ps ≡ true → put_record n (record_of n ps) ps ≡ ps
 unfolding put_record

@@ -1,4 +1,6 @@
 // The draft's numbers and the small types that all layers share, each once.
+#![tactic(auto)]
+
 mod outcome;
 mod queue_type;
 mod ranges;

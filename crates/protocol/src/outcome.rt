@@ -18,7 +18,7 @@ pub const NO_FRAME: u32 = 7;
 
 // The result of a step: the number of its refusal, or 0, and the bytes that it wrote. It crosses to the host as it is.
 #[repr(C)]
-#[derive(Drop)]
+#[derive(Clone, Copy)]
 pub struct Outcome {
     pub refusal: u32,
     pub written: u32,

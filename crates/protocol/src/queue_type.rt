@@ -9,14 +9,14 @@ const INPUT: u32 = 0x0100;
 const OUTPUT: u32 = 0x0101;
 
 // One of a stream's two queues.
-#[derive(Drop)]
+#[derive(Clone, Copy)]
 pub enum QueueType {
     Input,
     Output,
 }
 
 // The queue that a number names, or that it names neither.
-#[derive(Drop)]
+#[derive(Clone, Copy)]
 pub enum Named {
     One(QueueType),
     Neither,

@@ -1,5 +1,7 @@
 // Functions on the words of one queue of the device table: four words, and sixteen slots of five (specs/Words).
 // The contracts speak of every queue Q whose words are lent.
+#![tactic(auto)]
+
 mod changes;
 mod search;
 mod slots;
@@ -17,7 +19,7 @@ pub use slots::{
 pub const QUEUE_WORDS: usize = 84;
 
 // The place that a search found.
-#[derive(Drop)]
+#[derive(Clone, Copy)]
 pub enum Found {
     At(usize),
     Nothing,

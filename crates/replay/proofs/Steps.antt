@@ -26,7 +26,7 @@ use Rattle.line.specs.Promises.{good_line}
 use Rattle.replay.specs.Fed.{Logs, Did}
 use Rattle.replay.specs.declared.Fed.{Fed}
 use Rattle.line.proofs.Cutting.{uses_some}
-use Rattle.line.proofs.Shown.{steps_are_good, writes_answers_lem, line_step, line_refused}
+use Rattle.line.proofs.Shown.{steps_are_good, writes_answers_lem, line_step_lem, line_refused_lem}
 
 -- every refusal that a step can have fits in a byte
 listed_small : (a : Act) (k : ℕ) → listed a k ≡ true → k < 256
@@ -56,13 +56,13 @@ module _ (L : Layout) (t line room : List ℕ) (a : Act) (is : line_of line ≡ 
   pub logged : {out out' : List ℕ} {r : ℕ} → Wrote out out' 0 r (shown refusal (take written room')) → Logs (line_step L t line) r t' out out'
   logged {out} {out'} {r} w =
       subst (λ (x : Logged). Logs x r t' out out')
-      (ap (λ (x : Effect). record { text = shown x.refusal (take x.written x.room); table = x.table }) e ∙ sym (line_step L t line room a is long))
+      (ap (λ (x : Effect). record { text = shown x.refusal (take x.written x.room); table = x.table }) e ∙ sym (line_step_lem L t line room a is long))
       (record { wrote = w; table = refl })
 
 -- a line that is refused
 pub logged_refused : (L : Layout) (t line : List ℕ) (k : ℕ) {out out' : List ℕ} {r : ℕ} → line_of line ≡ refused_line k → Wrote out out' 0 r (refusal_line k)
     → Logs (line_step L t line) r t out out'
-logged_refused L t line k {out} {out'} {r} e w = subst (λ (x : Logged). Logs x r t out out') (sym (line_refused L t line k e)) (record { wrote = w; table = refl })
+logged_refused L t line k {out} {out'} {r} e w = subst (λ (x : Logged). Logs x r t out out') (sym (line_refused_lem L t line k e)) (record { wrote = w; table = refl })
 
 -- A call on a piece
 

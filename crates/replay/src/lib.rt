@@ -1,4 +1,6 @@
 // The log as it is run: lines out of what is read in pieces, and a step for each. A program over it only reads, calls and writes.
+#![tactic(auto)]
+
 ghost use Rattle.std.specs.Prelude.{◌<◌, ◌≤◌, length, take};
 ghost use Rattle.table.specs.Blocks.{layout};
 ghost use Rattle.line.specs.Log.{line_step};
@@ -10,7 +12,7 @@ use line::LINE_ROOM;
 mod lines;
 
 // What a call on a piece did: the bytes used of it, the bytes kept of the line that has not ended, the bytes written.
-#[derive(Drop)]
+#[derive(Clone, Copy)]
 pub struct Fed {
     pub used: usize,
     pub have: usize,
@@ -27,7 +29,7 @@ pub fn feed(
 ) -> Fed
     ensures fits { result.written ≤ length out.new }
     ensures uses { (result.used ≤ length piece.now) × (0 < length piece.now → 0 < result.used) }
-    ensures means { Did (on_piece layout (record { table = table.entry.now; line = take have held.old }) piece.now) result table.exit.now held.new out.old out.new }
+    ensures means { Did (on_piece layout (record { table = table.old; line = take have held.old }) piece.now) result table.new held.new out.old out.new }
 {
     let mut frame = [0u8; 4184];
     let mut answers = [0u8; 1056];
@@ -55,7 +57,7 @@ pub fn log_line(table: &mut [u32], line: &[u8], out: &mut [u8; 2112]) -> usize
 // Steps the last line where the log ends without byte 10, unless it is empty; returns the bytes written.
 pub fn last_line(table: &mut [u32], held: &[u8; 8379], have: usize, out: &mut [u8; 2112]) -> usize
     ensures fits { result ≤ length out.new }
-    ensures means { Logs (last_step layout (record { table = table.entry.now; line = take have held.now })) result table.exit.now out.old out.new }
+    ensures means { Logs (last_step layout (record { table = table.old; line = take have held.now })) result table.new out.old out.new }
 {
     let mut frame = [0u8; 4184];
     let mut answers = [0u8; 1056];

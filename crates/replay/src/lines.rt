@@ -25,7 +25,7 @@ pub fn feed(
 ) -> Fed
     requires { (have ≤ line_room) × (line_room ≤ length held.old) × (4184 ≤ length frame.old) × (1056 ≤ length answers.old) × (2112 ≤ length out.old) }
     ensures fits { (result.have ≤ line_room) × (result.written ≤ length out.old) }
-    ensures means { Did (on_piece layout (record { table = table.entry.now; line = take have held.old }) piece.now) result table.exit.now held.new out.old out.new }
+    ensures means { Did (on_piece layout (record { table = table.old; line = take have held.old }) piece.now) result table.new held.new out.old out.new }
 {
     let gathered = line::gather(held, have, piece);
     let used = gathered.used;
@@ -56,7 +56,7 @@ pub fn last_line(
 ) -> usize
     requires { (have ≤ length held.now) × (4184 ≤ length frame.old) × (1056 ≤ length answers.old) × (2112 ≤ length out.old) }
     ensures fits { result ≤ length out.old }
-    ensures means { Logs (last_step layout (record { table = table.entry.now; line = take have held.now })) result table.exit.now out.old out.new }
+    ensures means { Logs (last_step layout (record { table = table.old; line = take have held.now })) result table.new out.old out.new }
 {
     if have == 0 {
         return 0;

@@ -50,8 +50,8 @@ in_order s k n e h = go (next_state s k) refl
     go none is = absurd (h (e ∙ ap order_number is))
     go (some x) is = is ∙ ap (λ (y : ℕ). some y) (sym (e ∙ ap order_number is))
 
-out_of_order : (s k n : ℕ) → n ≡ order_number (next_state s k) → n ≡ out_of_order → next_state s k ≡ none
-out_of_order s k n e h = go (next_state s k) refl
+out_of_order_lem : (s k n : ℕ) → n ≡ order_number (next_state s k) → n ≡ out_of_order → next_state s k ≡ none
+out_of_order_lem s k n e h = go (next_state s k) refl
   where
     go : (o : Option ℕ) → next_state s k ≡ o → next_state s k ≡ none
     go none is = is
@@ -101,7 +101,7 @@ module _ (config : PcmConfig) (s : ℕ) (m : List ℕ) where
     -- behind a good header: the request is out of order, or leads to n
     module _ {n k : ℕ} (code : k ≡ code_in m) (next : n ≡ order_number (next_state s k)) where
       pub out_of_turn : n ≡ out_of_order → IsReply (record { status = error_status bad_msg; state = s }) s (on_control config s m)
-      out_of_turn z = as_reply (rejects bad_msg) (header_good ∙ tests_hit rejects _ bad_msg _ (rw (← code) (ap is_none (out_of_order s k n next z))))
+      out_of_turn z = as_reply (rejects bad_msg) (header_good ∙ tests_hit rejects _ bad_msg _ (rw (← code) (ap is_none (out_of_order_lem s k n next z))))
 
       module _ (ne : n ≡ out_of_order → ⊥) where
         leads : next_state s (code_in m) ≡ some n

@@ -1,5 +1,7 @@
 // The sound device, output only: one control message of the guest to its PCM stream, safe on any bytes and numbers. The state of the stream is
 // a number that the host keeps. The whole outcome is one equation to the model: `pcm_control` of crates/pcm/specs/Control.
+#![tactic(auto)]
+
 mod lifecycle;
 mod message;
 
@@ -31,7 +33,7 @@ const SHORT_ROOM: u32 = 3;
 // The result of a message: the number of its refusal, or 0, the state of the stream, and the bytes that were written. It crosses to the
 // host as it is.
 #[repr(C)]
-#[derive(Drop)]
+#[derive(Clone, Copy)]
 pub struct ControlOutcome {
     pub refusal: u32,
     pub state: u32,
@@ -39,7 +41,7 @@ pub struct ControlOutcome {
 }
 
 // What a message comes to: its status, and the state that the stream is left in.
-#[derive(Drop)]
+#[derive(Clone, Copy)]
 struct ControlReply {
     status: u32,
     state: u32,

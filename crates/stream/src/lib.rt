@@ -1,5 +1,7 @@
 // The commands to a live stream that answer no buffer, each with the queue that it names: it is tested, then its change is made and its answer
 // written from the start of the room.
+#![tactic(auto)]
+
 ghost use Rattle.std.specs.Prelude.{◌≡◌, List, ℕ, ◌<◌, ◌≤◌, length};
 ghost use Rattle.model.specs.Device.{Queue, Stream, occupied, present};
 ghost use Rattle.model.specs.Frames.{frame_width, frame_height, frame_rate};

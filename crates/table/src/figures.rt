@@ -33,7 +33,7 @@ pub const FIGURES_WORDS: usize = 17;
 
 // What a question gives: the number of its refusal, or 0, how many answers are pending, and how many words of the table were read. It crosses to the host as it is.
 #[repr(C)]
-#[derive(Drop)]
+#[derive(Clone, Copy)]
 pub struct PendingFigure {
     pub refusal: u32,
     pub pending: u32,

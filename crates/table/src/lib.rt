@@ -1,5 +1,7 @@
 // The device table (specs/Blocks): eight blocks of 512 words, one for each stream place, and behind them the words of the spent numbers, the figures of
 // pending answers and words without use.
+#![tactic(auto)]
+
 ghost use Rattle.std.specs.Prelude.{◌≡◌};
 ghost use Rattle.model.specs.Tables.{freshen};
 ghost use Rattle.table.specs.Blocks.{layout};
@@ -38,7 +40,7 @@ pub const SPENT_END: usize = 4128;
 pub const TABLE_WORDS: usize = 4160;
 
 // A drain that is pending, with its ticket, or none.
-#[derive(Drop)]
+#[derive(Clone, Copy)]
 pub enum DrainState {
     Draining(u32),
     Idle,

@@ -1,4 +1,6 @@
 // The tag of a create frame: UTF-8 by RFC 3629 before its NUL, and the display name.
+#![tactic(auto)]
+
 ghost use Rattle.std.specs.Prelude.{◌≡◌};
 ghost use Rattle.tag.specs.Utf8.{class_of, utf8};
 ghost use Rattle.tag.specs.Tag.{nul_at, tag_length, display_name};
@@ -12,7 +14,7 @@ const CREATE_LENGTH: usize = 88;
 const TAG_OFFSET: usize = 24;
 
 // A good tag, with how many octets stand before its NUL, or a bad one.
-#[derive(Drop)]
+#[derive(Clone, Copy)]
 pub enum Tag {
     Good(usize),
     Bad,

@@ -1,4 +1,6 @@
 // Whether the words of a table are valid: those of a device, and of one that keeps the rules.
+#![tactic(auto)]
+
 mod figures;
 mod numbers;
 mod places;

@@ -1,0 +1,11 @@
+-- `completion::destroy` meets its contract: answers first, then the block is freed.
+use mathlib.Core.Option.{none}
+use Rattle.completion.specs.Done.{destroy_answers}
+use Rattle.stream.proofs.Steps.{replied_by}
+use Rattle.completion.proofs.Ends.{destroy_is}
+use Rattle.completion.proofs.stops.destroy.Goals as goal
+
+pub returns : goal.returns
+returns c f b h =
+    replied_by (destroy_answers c.args.stream c.args.ticket b) none (destroy_is c.args.stream c.args.ticket f b)
+    c.free_stream.ensures (c.destroy_answers-written.ensures _ b h)

@@ -1,0 +1,10 @@
+-- `table::fill_zero` meets its contract: one more is zero at each turn.
+use Rattle.std.proofs.Common.{◌-◌, length}
+use Rattle.laws.proofs.Parts.{Zeroed}
+use Rattle.table.proofs.block.fill_zero.Given as goal
+
+abbrev pub invariant-loop-i : goal.invariant-loop-i
+invariant-loop-i l = Zeroed l.initial.s l.s l.i
+
+abbrev pub decreases-loop-i : goal.decreases-loop-i
+decreases-loop-i l = length l.initial.s - l.i
