@@ -1,6 +1,5 @@
 -- `sound::control_reply` meets its contract: each way out is the first of the tests that hits.
 use native.Mathlib.Omega.{arith}
-use borrow.Author.Rules.{rules}
 use Rattle.sound.proofs.Laws.{header_fails, good_header, out_of_turn, plain_turn, format_bytes, format_fails, format_turn}
 use Rattle.sound.proofs.control_reply.Goals as goal
 

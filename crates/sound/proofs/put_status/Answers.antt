@@ -1,6 +1,5 @@
 -- `sound::put_status` meets its contract: the status, and behind it the zeros where the channel map was asked for.
 use Prim.Native.Nat.{◌<◌, ◌≤◌}
-use borrow.Author.Rules.{rules}
 use borrow.Author.Tests.{lt-leb, le-leb, eq-eqb, ne_eqb}
 use Rattle.pcm.specs.Numbers.{pcm_header}
 use Rattle.sound.proofs.Laws.{wrote_status, wrote_map}

@@ -1,8 +1,7 @@
 -- `sound::put_zeros` meets its contract: one more is zero at each turn.
 use Prim.Native.Nat.{◌-◌}
-use borrow.Author.Rules.{rules}
 use lib.ListN.{length}
-use Rattle.laws.proofs.Parts.{Zeroed, zeroed_none, zeroed_more, zeroed_all}
+use Rattle.laws.proofs.Parts.{Zeroed}
 use Rattle.sound.proofs.put_zeros.Given as goal
 
 abbrev pub invariant-loop-i : goal.invariant-loop-i

@@ -1,7 +1,6 @@
 -- `sound::virtio_snd_control` meets its contract: refused by one of the two first tests, or carried out.
 use Prim.Native.Nat.{◌<◌, ◌≤◌}
 use native.Mathlib.Omega.{arith}
-use borrow.Author.Rules.{rules}
 use Rattle.pcm.specs.Numbers.{control_room, pcm_stopped}
 use Rattle.sound.proofs.Laws.{short_room, no_state, few, carried_out_lem}
 use Rattle.sound.proofs.virtio_snd_control.Goals as goal

@@ -6,7 +6,6 @@ use Prim.Native.Nat.{ℕ, ◌+◌, ◌*◌, ◌/◌, ◌%◌, ◌≤◌}
 use native.Mathlib.Omega.{arith}
 use lib.Dec.{leb, leb→le}
 use lib.ListN.{get_or}
-use borrow.Author.Rules.{rules}
 use Rattle.laws.proofs.Table.{every_at, table_rule}
 use Rattle.pcm.specs.Lifecycle.{next_state}
 use Rattle.sound.specs.Meaning.{order_number}
@@ -21,10 +20,12 @@ next_table =
     ∷ 6 ∷ 6 ∷ 6 ∷ 6 ∷ 5 ∷ 6 ∷ 3
     ∷ 6 ∷ 1 ∷ 2 ∷ 6 ∷ 6 ∷ 6 ∷ 6
     ∷ []
+
 module _ (s k : ℕ) (h : s ≤ 5) (l : k ≤ 6) where
   next_small : get_or next_table (s * 7 + k) 0 ≤ 6
   unfolding next_table
   next_small = leb→le _ 6 (every_at (λ _ x. leb x 6) next_table tt (s * 7 + k) (omega arith))
+
   rule : get_or next_table (s * 7 + k) 0 ≡ order_number (next_state s k)
   unfolding next_table next_state
   rule =

@@ -2,7 +2,6 @@
 use mathlib.Core.Path.{◌≡◌}
 use mathlib.Core.Bool.{false}
 use Prim.Native.Nat.{◌<◌}
-use borrow.Author.Rules.{rules}
 use Rattle.laws.specs.InOrder.{first_hit}
 use Rattle.laws.proofs.Tests.{within_true, within_below, within_above, was_true, was_false}
 use Rattle.pcm.specs.Numbers.{last_format, last_rate}

@@ -1,11 +1,6 @@
 -- `sound::has_bit` meets its contract. The invariant: the mask is halved once for each bit below.
-use mathlib.Core.Path.{◌≡◌, sym}
+use mathlib.Core.Path.{◌≡◌}
 use Prim.Native.Nat.{◌≤◌, ◌-◌, ◌/◌, ◌^◌}
-use native.Mathlib.Nat.{div-one, div-div-eq-div-mul, pow-suc}
-use native.Mathlib.Numerals.{add-one}
-use native.Mathlib.Omega.{arith}
-use borrow.Author.Rules.{rules}
-use Rattle.pcm.specs.Control.{has_bit}
 use Rattle.sound.proofs.message.has_bit.Given as goal
 
 abbrev pub invariant-loop-i : goal.invariant-loop-i

@@ -1,7 +1,6 @@
 -- `sound::header_status` meets its contract: each way out is the first of the tests that hits.
 use mathlib.Core.Path.{◌∙◌}
 use Prim.Native.Nat.{◌<◌, ◌≤◌}
-use borrow.Author.Rules.{rules}
 use borrow.Author.Tests.{lt-ltb, le-ltb, eq-eqb, ne_eqb}
 use Rattle.laws.specs.InOrder.{first_hit}
 use Rattle.pcm.specs.Numbers.{unpause_code, pcm_header}

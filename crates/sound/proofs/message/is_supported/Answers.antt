@@ -1,6 +1,5 @@
 -- `sound::is_supported` meets its contract.
 use mathlib.Core.Path.{◌∙◌}
-use borrow.Author.Rules.{rules}
 use borrow.Author.Tests.{lt-leb, le-leb}
 use Rattle.pcm.specs.Control.{supported}
 use Rattle.sound.proofs.message.is_supported.Goals as goal
