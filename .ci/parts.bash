@@ -26,13 +26,8 @@ mkdir -p "$VIRTIO_VIDEO_LIB_DIR" || exit 2
 archive_of() { echo "$VIRTIO_VIDEO_LIB_DIR/lib$1.a"; }
 
 # There, and not older than any source of the core.
-current() { [ -f "$1" ] && [ -z "$(find crates crates.txt -newer "$1" -print -quit)" ]; }
-archived() {
-    local archive
-    archive=$(archive_of "$1")
-    current "$archive" && return
-    rm -f "$archive" && rt staticlib "$1" >"$archive.log" 2>&1 && [ -f "$archive" ]
-}
+current() { [ -f "$1" ] && [ -z "$(find crates crates.txt -name out -prune -o -newer "$1" -type f -print -quit)" ]; }
+archived() { current "$(archive_of "$1")" || tools/build.sh "$1"; }
 # Both of them, since the Rust package links both.
 archives=(decoder sound)
 build_archives() {

@@ -10,5 +10,5 @@ HEADERS = $(DECODER_HEADER) $(INCLUDE)/virtio_sound_output.h
 .DEFAULT_GOAL = all
 
 $(ARCHIVES): $(LIB_DIR)/lib%.a:
-	@echo "$@ is not there: run 'rt staticlib $*' in the root of the repository" >&2
+	@echo "$@ is not there: run 'tools/build.sh $*' in the root of the repository" >&2
 	@exit 1

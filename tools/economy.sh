@@ -4,7 +4,7 @@
 #   contracts    lines of src/*.rt that are a requires, an ensures or a ghost import
 #   definitions  specs/*.antt: what the contracts cite
 #   laws         proofs/*.antt: what is proved once and cited
-#   by function  proofs/**/Proof.antt: what is left of each function's own proof
+#   by function  proofs/**/Answers.antt, Invariants.antt: what is left of each function's own proof
 set -u
 CDPATH='' cd -- "$(dirname -- "${BASH_SOURCE[0]}")/.." || exit 2
 
@@ -22,14 +22,14 @@ row='%-10s %5s %9s %11s %5s %11s %9s %5s\n'
 printf "$row" crate code contracts definitions laws 'by function' functions edits
 sums=(0 0 0 0 0 0 0)
 while IFS=: read -r crate _; do
-    crate=${crate//[[:space:]]/}
+    crate=${crate%% *}
     [[ -z $crate || $crate == \#* ]] && continue
     src=(crates/"$crate"/src/**/*.rt)
     all=$(lines '//' "${src[@]}")
     contracts=$(cat "${src[@]}" | grep -c -E "$ghost")
     specs=(crates/"$crate"/specs/*.antt)
     laws=(crates/"$crate"/proofs/*.antt)
-    own=(crates/"$crate"/proofs/**/Proof.antt)
+    own=(crates/"$crate"/proofs/**/Answers.antt crates/"$crate"/proofs/**/Invariants.antt)
     functions=$(cat "${src[@]}" | grep -c -E '^(pub )?(extern "C" )?fn ')
     edits=(crates/"$crate"/must-fail/*.edit)
     cells=($((all - contracts)) "$contracts" "$(lines -- "${specs[@]}")" "$(lines -- "${laws[@]}")" "$(lines -- "${own[@]}")" "$functions" "${#edits[@]}")

@@ -15,7 +15,7 @@ trap 'rm -f "$log" "$written" "$errors"' EXIT
 # The programs of this repository, and the tests' own numbers of lines, logs and seeds.
 export VIDEO_LOG=$PWD/target/bin/video_log LOG_CHECK=$PWD/target/bin/log_check
 unset LOG_LINES LOGS SEED
-built() { rt check video_log log_check && [ -x "$VIDEO_LOG" ] && [ -x "$LOG_CHECK" ]; }
+built() { tools/build.sh video_log log_check && [ -x "$VIDEO_LOG" ] && [ -x "$LOG_CHECK" ]; }
 build_archives
 part "the programs are built" built
 

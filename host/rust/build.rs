@@ -1,4 +1,4 @@
-//! Links the archives, each of which `rt staticlib` writes by its name, from `VIRTIO_VIDEO_LIB_DIR`
+//! Links the archives, each of which `tools/build.sh` writes by its name, from `VIRTIO_VIDEO_LIB_DIR`
 //! or else from the repository's own `target/staticlib`.
 
 use std::path::PathBuf;
@@ -18,7 +18,7 @@ fn main() {
         println!("cargo:rerun-if-changed={}", archive.display());
         if !archive.is_file() {
             eprintln!(
-                "{} is not there: run `rt staticlib {name}` in the root of the repository, \
+                "{} is not there: run `tools/build.sh {name}` in the root of the repository, \
                  or set VIRTIO_VIDEO_LIB_DIR to the folder that has it",
                 archive.display()
             );

@@ -1,5 +1,5 @@
-//! The ten functions of the two archives, over lent slices: four of the decoder, two that ask what is
-//! pending there, two on the tag of a creation, one that checks a log, and one of the sound device.
+//! The eight functions of the two archives, over lent slices: four of the decoder, two that ask what is
+//! pending there, one that checks a log, and one of the sound device.
 //!
 //! This is the only module with `unsafe`, and it holds nothing else: a Rust slice is what the
 //! functions ask of a pointer and its count (true length, alignment, nobody else at it). They take
@@ -29,18 +29,6 @@ pub struct Pending {
     pub pending: u32,
     /// How many words of the table were read; 0 with a refusal.
     pub words_read: u32,
-}
-
-/// What is said of a tag. A bad one is 0, 0 and 0.
-#[repr(C)]
-#[derive(Clone, Copy, Debug, PartialEq, Eq)]
-pub struct Tag {
-    /// 1 for a good tag, else 0.
-    pub good: u32,
-    /// Bytes before the NUL.
-    pub length: u32,
-    /// Looks that the check took.
-    pub looks: u32,
 }
 
 /// What is said of a log.
@@ -102,10 +90,6 @@ extern "C" {
     fn virtio_video_pending_in_all(table: *const u32, words: usize) -> Pending;
 
     fn virtio_video_pending_of_stream(table: *const u32, words: usize, stream: u32) -> Pending;
-
-    fn virtio_video_name_length(frame: *const u8, frame_len: usize) -> u32;
-
-    fn virtio_video_check_tag(tag: *const u8, tag_len: usize) -> Tag;
 
     fn virtio_video_check_log(log: *const u8, log_len: usize) -> Verdict;
 
@@ -197,19 +181,6 @@ pub fn pending_in_all(table: &[u32]) -> Pending {
 pub fn pending_of_stream(table: &[u32], stream: u32) -> Pending {
     // SAFETY: as in `pending_in_all`.
     unsafe { virtio_video_pending_of_stream(table.as_ptr(), table.len(), stream) }
-}
-
-/// How many bytes the display name has in a frame, where it stands from offset 24; 0 where the site's
-/// own name is shown. Any bytes and any length are taken.
-pub fn name_length(frame: &[u8]) -> u32 {
-    // SAFETY: pointer and length are those of one slice that is lent for the call, and only read.
-    unsafe { virtio_video_name_length(frame.as_ptr(), frame.len()) }
-}
-
-/// Checks a tag of 64 bytes. One of any other length is bad.
-pub fn check_tag(tag: &[u8]) -> Tag {
-    // SAFETY: as in `name_length`.
-    unsafe { virtio_video_check_tag(tag.as_ptr(), tag.len()) }
 }
 
 /// Checks a log that holds questions and answers, on a device of its own.

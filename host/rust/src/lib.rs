@@ -5,8 +5,6 @@
 //! core behind it is an archive whose functions are proved against their definition; this package lends
 //! it memory, and reads what it answers. It has no dependencies.
 //!
-//! What a display shows for a stream is said by [`display_name`].
-//!
 //! The module [`log`] is about logs of such commands, reports and answers, and checks those of other
 //! makers' devices. Beside the decoder stands a small virtio sound device, output only, from an archive of
 //! its own: the module [`sound`].
@@ -53,12 +51,10 @@ pub mod ffi;
 pub mod log;
 mod refusal;
 pub mod sound;
-mod tag;
 pub mod wire;
 
 pub use answer::{Answer, Answers, Params, Response};
 pub use refusal::Refusal;
-pub use tag::{check_tag, display_name, GoodTag};
 
 use std::fmt;
 use wire::{ANSWER_ROOM, TABLE_WORDS};

@@ -102,10 +102,6 @@ pub const MAX_RESOURCES: usize = 16;
 pub const MAX_ENTRIES: usize = 256;
 /// Length of the arrays of planes in commands and parameters.
 pub const MAX_PLANES: usize = 8;
-/// Where the tag stands in a [`CMD_STREAM_CREATE`].
-pub const TAG_OFFSET: usize = 24;
-/// Bytes of a tag.
-pub const TAG_SIZE: usize = 64;
 /// Bytes of the longest response, for `max_resp_length` in the configuration space.
 pub const MAX_RESP_LENGTH: usize = 120;
 /// Bytes of the longest command that can succeed.
