@@ -71,6 +71,6 @@ module _ {A : Type 0} (key : A → ℕ) where
       how_many_length p (ascending key l) ∙ ap length (keep_ascending key p l) ∙ length_ascending (keep p l) ∙ sym (how_many_length p l)
 
 -- a list of the edges, with a number that is there twice
-in_order : ascending (λ (n : ℕ). n) (9 ∷ 4294967295 ∷ 0 ∷ 9 ∷ []) ≡ 0 ∷ 9 ∷ 9 ∷ 4294967295 ∷ []
+in_order_lem : ascending (λ (n : ℕ). n) (9 ∷ 4294967295 ∷ 0 ∷ 9 ∷ []) ≡ 0 ∷ 9 ∷ 9 ∷ 4294967295 ∷ []
 unfolding insert_by below not_below
-in_order = refl
+in_order_lem = refl

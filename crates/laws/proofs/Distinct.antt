@@ -58,15 +58,15 @@ module _ {A : Type 0} (key : A → ℕ) where
       simp (e, eq-eqb (key x) n (sym is), subst (λ (k : ℕ). stands_in k ns ≡ false) is new) (omega (arith, one_number n ns new l)))
       (λ e. simp (e, eqb_sym n (key x) e) (omega (arith, one_number n ns new l)))
 
-  by_number : (ns : List ℕ) → distinct ns ≡ true → (l : List A) → total (map (how_many_of l) ns) ≡ how_many (λ x. stands_in (key x) ns) l
-  by_number [] h l = sym (how_many_length (λ x. false) l ∙ ap length (keep_const false l))
-  by_number (n ∷ ns) h l =
-      ap (λ (k : ℕ). how_many_of l n + k) (by_number ns (and_right (not (stands_in n ns)) _ h) l)
+  by_number_lem : (ns : List ℕ) → distinct ns ≡ true → (l : List A) → total (map (how_many_of l) ns) ≡ how_many (λ x. stands_in (key x) ns) l
+  by_number_lem [] h l = sym (how_many_length (λ x. false) l ∙ ap length (keep_const false l))
+  by_number_lem (n ∷ ns) h l =
+      ap (λ (k : ℕ). how_many_of l n + k) (by_number_lem ns (and_right (not (stands_in n ns)) _ h) l)
       ∙ one_number n ns (not-true _ (and_left (not (stands_in n ns)) _ h)) l
 
   -- where no element has another number, all are counted, each once
   pub counted_once : (ns : List ℕ) → distinct ns ≡ true → (l : List A) → ((n : ℕ) → stands_in n ns ≡ false → how_many_of l n ≡ 0) → total (map (how_many_of l) ns) ≡ length l
-  counted_once ns h l others = by_number ns h l ∙ each_stands l others
+  counted_once ns h l others = by_number_lem ns h l ∙ each_stands l others
     where
       each_stands : (m : List A) → ((n : ℕ) → stands_in n ns ≡ false → how_many_of m n ≡ 0) → how_many (λ x. stands_in (key x) ns) m ≡ length m
       each_stands [] o = refl

@@ -380,13 +380,13 @@ module _ (n t : ℕ) (f : List ℕ) (b : Stream) (s : Sane (some b)) where
   bad ty e = fail_type ty n t f (some b) e
 
   -- a command to the queue that it names
-  in_queue : (ty : ℕ) (k : QueueCommand) → ((q : QueueType) → queue_named (field 4 f 8) ≡ some q → FitsLive ty (on_queue_of k c b q)) → FitsLive ty (on_live (to_queue k) c b)
-  in_queue ty k h = named_cases (FitsLive ty) k c b (bad ty invalid_parameter) h
+  in_queue_lem : (ty : ℕ) (k : QueueCommand) → ((q : QueueType) → queue_named (field 4 f 8) ≡ some q → FitsLive ty (on_queue_of k c b q)) → FitsLive ty (on_live (to_queue k) c b)
+  in_queue_lem ty k h = named_cases (FitsLive ty) k c b (bad ty invalid_parameter) h
 
   queued_live : FitsLive 0x0105 (on_live (to_queue queue_resource) c b)
   unfolding on_queue
   queued_live =
-      in_queue 0x0105 queue_resource (λ q e. tests_cases (FitsLive 0x0105) (fail c) _ (bad 0x0105) (λ h₁ h₂ h₃ h₄.
+      in_queue_lem 0x0105 queue_resource (λ q e. tests_cases (FitsLive 0x0105) (fail c) _ (bad 0x0105) (λ h₁ h₂ h₃ h₄.
       subst (λ (x : ℕ). Fits (λ w. false) (some (to_buffer x (resource_id f) (timestamp_sent f))) n t (me t true) (some b)
       (reply [] (some (with_queue q (with_slots (set_state (resource_id f) (queued t (timestamp_sent f)) (queue_of q b).slots) (queue_of q b)) b))))
       (sym (named_number (field 4 f 8) q e))
@@ -395,7 +395,7 @@ module _ (n t : ℕ) (f : List ℕ) (b : Stream) (s : Sane (some b)) where
   cleared_live : FitsLive 0x0107 (on_live (to_queue clear) c b)
   unfolding on_clear
   cleared_live =
-      in_queue 0x0107 clear (λ q e.
+      in_queue_lem 0x0107 clear (λ q e.
       subst (λ (x : ℕ). Fits (clears x) none n t (me t false) (some b)
       (reply (stopped_answers n q (buffers q b) ++ (drain_answers n (drain_ended (is_input q) b) ++ own c success ∷ [])) (some (with_queue q (cleared (queue_of q b)) (without_ended (is_input q) b)))))
       (sym (named_number (field 4 f 8) q e)) (clear_fits q n t b))
@@ -408,25 +408,25 @@ module _ (n t : ℕ) (f : List ℕ) (b : Stream) (s : Sane (some b)) where
   resource_live : FitsLive 0x0104 (on_live (to_queue create_resource) c b)
   unfolding on_create_resource
   resource_live =
-      in_queue 0x0104 create_resource (λ q e. tests_all (FitsLive 0x0104) (fail c) _ (bad 0x0104)
+      in_queue_lem 0x0104 create_resource (λ q e. tests_all (FitsLive 0x0104) (fail c) _ (bad 0x0104)
       (let x = (queue_of q b).slots in
       quiet q (with_slots (add_resource (resource_id f) x) (queue_of q b)) (queued_add (resource_id f) x)))
 
   freed_live : FitsLive 0x0106 (on_live (to_queue destroy_all) c b)
   unfolding on_destroy_all
   freed_live =
-      in_queue 0x0106 destroy_all (λ q e. tests_cases (FitsLive 0x0106) (fail c) _ (bad 0x0106) (λ h.
+      in_queue_lem 0x0106 destroy_all (λ q e. tests_cases (FitsLive 0x0106) (fail c) _ (bad 0x0106) (λ h.
       let x = (queue_of q b).slots in
       let none_queued : not (is_empty (queued_in x)) ≡ false = h in
       quiet q (with_slots (free_all x) (queue_of q b)) (queued_free x ∙ sym (empty_is _ (not-false _ none_queued)))))
 
   got_live : FitsLive 0x0108 (on_live (to_queue get_parameters) c b)
   unfolding on_get
-  got_live = in_queue 0x0108 get_parameters (λ q e. quiet_fits n t (own c (parameters _)) (some b) (some b) refl refl refl)
+  got_live = in_queue_lem 0x0108 get_parameters (λ q e. quiet_fits n t (own c (parameters _)) (some b) (some b) refl refl refl)
 
   set_live : FitsLive 0x0109 (on_live (to_queue set_parameters) c b)
   unfolding on_set
-  set_live = in_queue 0x0109 set_parameters (λ q e. tests_all (FitsLive 0x0109) (fail c) _ (bad 0x0109) (quiet q _ refl))
+  set_live = in_queue_lem 0x0109 set_parameters (λ q e. tests_all (FitsLive 0x0109) (fail c) _ (bad 0x0109) (quiet q _ refl))
 
   drain_live : FitsLive 0x0103 (on_drain c b)
   unfolding on_drain

@@ -56,19 +56,19 @@ module _ (d : Device) (h : well_formed d ≡ true) (n : ℕ) where
   pub put_back_same : put_back n self d ≡ d
   put_back_same = λ i. record { places = put_self n d.places (well_places d h).apart i; spent = spent_self n self d.spent i }
 
-  by_number : (a : Act) (k : ℕ) → eqb k 0 ≡ false → NotAccepted d a (device_reply d n (refuse k self))
-  by_number a k z = subst (λ (x : Device). NotAccepted d a (record { refusal = k; answers = []; device = x })) (sym put_back_same) (numbered k z)
+  by_number_lem : (a : Act) (k : ℕ) → eqb k 0 ≡ false → NotAccepted d a (device_reply d n (refuse k self))
+  by_number_lem a k z = subst (λ (x : Device). NotAccepted d a (record { refusal = k; answers = []; device = x })) (sym put_back_same) (numbered k z)
 
   -- by a number, or a command by an error
   asked : (t : ℕ) (f : List ℕ) (v : Reply) → n ≡ field 4 f 4 → Rejected n t self v → NotAccepted d (command t f) (device_reply d n v)
-  asked t f _ s (by_host k z) = by_number (command t f) k z
+  asked t f _ s (by_host k z) = by_number_lem (command t f) k z
   asked t f _ s (by_error e) =
       subst (λ (x : Device). NotAccepted d (command t f) (record { refusal = 0; answers = record { ticket = t; stream = n; response = failure e } ∷ []; device = x })) (sym put_back_same)
       (subst (λ (m : ℕ). NotAccepted d (command t f) (record { refusal = 0; answers = record { ticket = t; stream = m; response = failure e } ∷ []; device = d })) (sym s)
       (by_answer t f e refl))
 
   report : (a : Act) (v : Reply) → Rejected n (step_ticket a) self v → eqb v.refusal 0 ≡ false → NotAccepted d a (device_reply d n v)
-  report a _ (by_host k z) e = by_number a k z
+  report a _ (by_host k z) e = by_number_lem a k z
   report a _ (by_error x) e = never e
 
   numbered_report : (a : Act) (v : Reply) → Rejected n (step_ticket a) self v → Numbered v → accepted_reply v ≡ false → NotAccepted d a (device_reply d n v)

@@ -114,18 +114,18 @@ module _ (k : ℕ) (s : List Slot) (i : ℕ) (h : i < length s) (n : ℕ) (e : a
 
 -- The slot with the lowest number
 
-first_slot : (l : List Buffer) (s : List Slot) (m : ℕ) → number_of_first l ≡ some m → slot_of_first l s ≡ find_resource m s
-first_slot [] s m e = cc
-first_slot (x ∷ l) s m e = let same : key x ≡ m = cc in ap (λ (n : ℕ). find_resource n s) same
+first_slot_lem : (l : List Buffer) (s : List Slot) (m : ℕ) → number_of_first l ≡ some m → slot_of_first l s ≡ find_resource m s
+first_slot_lem [] s m e = cc
+first_slot_lem (x ∷ l) s m e = let same : key x ≡ m = cc in ap (λ (n : ℕ). find_resource n s) same
 
-no_slot : (l : List Buffer) (s : List Slot) → number_of_first l ≡ none → slot_of_first l s ≡ none
-no_slot [] s e = refl
-no_slot (x ∷ l) s e = cc
+no_slot_lem : (l : List Buffer) (s : List Slot) → number_of_first l ≡ none → slot_of_first l s ≡ none
+no_slot_lem [] s e = refl
+no_slot_lem (x ∷ l) s e = cc
 
 pub next_at : (k : ℕ) (s : List Slot) (m : ℕ) → lowest_queued k s ≡ some m → next_queued k s ≡ find_resource m s
 unfolding lowest_queued next_queued
-next_at k s m e = first_slot (keep (not_below key k) (by_resource (queued_in s))) s m e
+next_at k s m e = first_slot_lem (keep (not_below key k) (by_resource (queued_in s))) s m e
 
 pub next_none : (k : ℕ) (s : List Slot) → lowest_queued k s ≡ none → next_queued k s ≡ none
 unfolding lowest_queued next_queued
-next_none k s e = no_slot (keep (not_below key k) (by_resource (queued_in s))) s e
+next_none k s e = no_slot_lem (keep (not_below key k) (by_resource (queued_in s))) s e

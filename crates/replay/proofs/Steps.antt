@@ -42,11 +42,11 @@ module _ (L : Layout) (t line room : List ℕ) (a : Act) (is : line_of line ≡ 
   pub small : refusal < 256
   small = subst (λ (x : Effect). x.refusal < 256) (sym e) (listed_small a (effect L t a room).refusal (only_listed_lem L t a room))
 
-  pub few_bytes : written ≤ 1056
-  few_bytes = subst (λ (x : Effect). x.written ≤ 1056) (sym e) (writes_at_most_lem L t a room)
+  pub few_bytes_lem : written ≤ 1056
+  few_bytes_lem = subst (λ (x : Effect). x.written ≤ 1056) (sym e) (writes_at_most_lem L t a room)
 
   pub short : length (take written room') ≤ 1056
-  short = rw (length-take written room') (omega (arith, few_bytes))
+  short = rw (length-take written room') (omega (arith, few_bytes_lem))
 
   pub whole_answers_lem : Whole (take written room')
   whole_answers_lem =

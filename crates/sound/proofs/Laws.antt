@@ -43,8 +43,8 @@ check_fails s none v h e n = absurd (n e)
 check_fails s (some x) v h e n = record { is_status = e ∙ ap status_of (sym (h x refl)); is_next = ap (state_after s) (sym (h x refl)) }
 
 -- a request that is in order
-in_order : (s k n : ℕ) → n ≡ order_number (next_state s k) → (n ≡ out_of_order → ⊥) → next_state s k ≡ some n
-in_order s k n e h = go (next_state s k) refl
+in_order_lem : (s k n : ℕ) → n ≡ order_number (next_state s k) → (n ≡ out_of_order → ⊥) → next_state s k ≡ some n
+in_order_lem s k n e h = go (next_state s k) refl
   where
     go : (o : Option ℕ) → next_state s k ≡ o → next_state s k ≡ some n
     go none is = absurd (h (e ∙ ap order_number is))
@@ -105,7 +105,7 @@ module _ (config : PcmConfig) (s : ℕ) (m : List ℕ) where
 
       module _ (ne : n ≡ out_of_order → ⊥) where
         leads : next_state s (code_in m) ≡ some n
-        leads = rw (← code) (in_order s k n next ne)
+        leads = rw (← code) (in_order_lem s k n next ne)
 
         -- by a request without fields of its own
         pub plain_turn : (k ≡ set_format_code → ⊥) → IsReply (record { status = status_ok; state = n }) s (on_control config s m)

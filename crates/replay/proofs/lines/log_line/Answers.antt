@@ -6,7 +6,7 @@ use lib.Seq.{length-take-le}
 use Rattle.table.specs.Blocks.{layout}
 use Rattle.line.specs.declared.Decoded.{Decoded}
 use Rattle.line.specs.Line.{decoded, count_of}
-use Rattle.replay.proofs.Steps.{small, few_bytes, short, whole_answers_lem, logged, logged_refused}
+use Rattle.replay.proofs.Steps.{small, few_bytes_lem, short, whole_answers_lem, logged, logged_refused}
 use Rattle.replay.proofs.lines.log_line.Goals as goal
 
 pub returns-in_default : goal.returns-in_default
@@ -26,13 +26,13 @@ step_frame-outcome-requires c =
 pub slice_bounds-put_outcome-end : goal.slice_bounds-put_outcome-end
 slice_bounds-put_outcome-end c =
     let is = sym c.decode_line-decoded.ensures.means ∙ ap (λ (d : Decoded). decoded d c.decode_line-decoded.new.frame) c.in-Framed.is in
-    omega (arith, few_bytes layout c.args.table.now c.args.line.now c.args.answers.now _ is c.requires.1 _ _ _ _ c.step_frame-outcome.ensures)
+    omega (arith, few_bytes_lem layout c.args.table.now c.args.line.now c.args.answers.now _ is c.requires.1 _ _ _ _ c.step_frame-outcome.ensures)
 
 pub slice_bounds-put_outcome-end-2 : goal.slice_bounds-put_outcome-end-2
 slice_bounds-put_outcome-end-2 c =
     let is = sym c.decode_line-decoded.ensures.means ∙ ap (λ (d : Decoded). decoded d c.decode_line-decoded.new.frame) c.in-Framed.is in
     sym (length-take-le _ _
-    (omega (arith, few_bytes layout c.args.table.now c.args.line.now c.args.answers.now _ is c.requires.1 _ _ _ _ c.step_frame-outcome.ensures)))
+    (omega (arith, few_bytes_lem layout c.args.table.now c.args.line.now c.args.answers.now _ is c.requires.1 _ _ _ _ c.step_frame-outcome.ensures)))
 
 pub put_outcome-requires : goal.put_outcome-requires
 put_outcome-requires c =
