@@ -1,6 +1,6 @@
 #!/usr/bin/env python3
 """Tries wrong answers outside the gate: python3 tools/wrong_answers.py [--out FILE] [LIST [CRATE..]]
-or reads what the gate's own edits met: python3 tools/wrong_answers.py [--out FILE] --gate FOLDER
+or reads what the gate's own edits met: python3 tools/wrong_answers.py [--out FILE] --gate LOG
 
 LIST (tools/wrong_answers.txt where none is named) has records of the form of a must-fail edit, each under a line
     CRATE NAME
@@ -9,8 +9,8 @@ tries each edit on the copy: it must refuse it. For each edit the first error is
 longer holds, or only a name or a shape. An error that shows only a name or a shape is marked `SHAPE`. The last line has the figures, and
 with --out the whole is written to a file. Exit status 0 where each is refused, and by a fact.
 
-With --gate nothing is tried: FOLDER is a copy of the repository in which the gate has run, and the first error of each of its must-fail
-edits is printed in the same form."""
+With --gate nothing is tried: LOG is what `rt ci` or `rt must-fail` printed, and the first error of each must-fail edit there is printed in
+the same form."""
 import glob
 import os
 import re
@@ -38,34 +38,13 @@ for record in filter(None, re.split(r"\n\s*\n", text.strip())):
 assert len({(crate, name) for crate, name, _ in records}) == len(records), "a name stands twice"
 
 SHAPES = re.compile(r"has no `|not in scope|is no item|has no field|mismatched types|no such|unknown|cannot find|is already declared|expected `.*Proof")
-# The two sides of a comparison that fails, the plainest form first.
-PAIRS = [
-    r"computed as far as they go, the two types differ only where one has (.{1,60}?) \(expected\) and the other has (.{1,60}?) \(found\)",
-    r"computed as far as they go, the two types are (.{1,60}?) \(expected\) and (.{1,60}?) \(found\)",
-    r"differ only where one has (.{1,60}?) \(expected\).{0,80}? and the other has (.{1,60}?) \(found\)",
-    r"first differ where one has (.{1,60}?) \(expected\).{0,80}? and the other has (.{1,60}?) \(found\)",
-]
+# What rt prints of an edit that is refused: the first error, cut short.
+REFUSED = r"must-fail (\S+)/(\S+?)\.edit: refused, as it must be: (?:\./)?(.*)"
 
 
-def first_error(log):
-    """The first refusal in a log, and whether it is one of a name or a shape."""
-    lines = open(log, encoding="utf-8", errors="replace").read().split("\n")
-    for i, line in enumerate(lines):
-        place = re.search(r"((?:proofs|specs|src)/\S+?:\d+:\d+): (?:error: (.*)|(it is not proved that .*))", line)
-        if not place:
-            continue
-        said = place.group(2) or place.group(3)
-        shape = bool(place.group(2) and SHAPES.search(said[:400]))
-        for more in lines[i + 1 : i + 6]:
-            if not more.startswith("  "):
-                break
-            said += " " + more.strip()
-        for pair in PAIRS:
-            both = re.search(pair, said)
-            if both:
-                return f"{place.group(1)}: {both.group(1)} expected, {both.group(2)} found", shape
-        return f"{place.group(1)}: {said[:160]}", shape
-    return "no error in the log", True
+def told(error):
+    """The first error in a line, and whether it is one of a name or a shape."""
+    return error[:240], bool(SHAPES.search(error))
 
 
 def finish(lines, tried, refused, shapes):
@@ -80,16 +59,15 @@ def finish(lines, tried, refused, shapes):
 
 if gate:
     lines, shapes = [], 0
-    for edit in sorted(glob.glob(os.path.join(gate, "crates", "*", "must-fail", "*.edit"))):
-        crate, name = edit.split(os.sep)[-3], os.path.basename(edit)[: -len(".edit")]
-        error, shape = first_error(os.path.join(gate, "target", "must-fail", crate, name, ".log"))
+    for crate, name, error in sorted(set(re.findall(REFUSED, open(gate, encoding="utf-8", errors="replace").read()))):
+        error, shape = told(error)
         shapes += shape
         lines.append(f"{crate}/{name}: {'SHAPE: ' if shape else ''}{error}")
-    finish(lines, len(lines), len(lines), shapes)
+    finish(lines, len(glob.glob(os.path.join(root, "crates", "*", "must-fail", "*.edit"))), len(lines), shapes)
 
 with tempfile.TemporaryDirectory() as copy:
     tree = os.path.join(copy, "tree")
-    shutil.copytree(root, tree, ignore=shutil.ignore_patterns(".git", "must-fail"), symlinks=True)
+    shutil.copytree(root, tree, ignore=shutil.ignore_patterns(".git", "must-fail", "target"), symlinks=True)
     for crate, name, body in records:
         folder = os.path.join(tree, "crates", crate, "must-fail")
         os.makedirs(folder, exist_ok=True)
@@ -98,15 +76,15 @@ with tempfile.TemporaryDirectory() as copy:
     crates = sorted({crate for crate, _, _ in records})
     run = subprocess.run(["rt", "must-fail", *crates], cwd=tree, capture_output=True, text=True, check=False)
     said = run.stdout + run.stderr
+    met = {(crate, name): error for crate, name, error in re.findall(REFUSED, said)}
     lines, refused, shapes = [], 0, 0
     for crate, name, _ in records:
-        verdict = re.search(rf"must-fail {re.escape(crate)}/{re.escape(name)}: refused", said)
-        if not verdict:
-            other = re.search(rf"^.*must-fail {re.escape(crate)}/{re.escape(name)}.*$", said, re.M)
+        if (crate, name) not in met:
+            other = re.search(rf"^.*must-fail {re.escape(crate)}/{re.escape(name)}\b.*$", said, re.M)
             lines.append(f"{crate}/{name}: NOT REFUSED: {other.group(0) if other else 'it was not tried'}")
             continue
         refused += 1
-        error, shape = first_error(os.path.join(tree, "target", "must-fail", crate, name, ".log"))
+        error, shape = told(met[crate, name])
         shapes += shape
         lines.append(f"{crate}/{name}: {'SHAPE: ' if shape else ''}{error}")
     if not refused:

@@ -33,7 +33,7 @@ use Rattle.model.proofs.Tables.{valid_device, valid_used, same_events, same_tabl
 use Rattle.queue.specs.Words.{queue_words}
 use Rattle.table.specs.Blocks.{queue_start, head_words, place_words, blocks, behind, encode, decode, layout}
 use Rattle.table.specs.Search.{place_at, has_all_slots}
-use Rattle.clear_mark.specs.ClearMark.{Marks, MarkedDevice, mark_of_queue, mark_hits, marked_step, marks_after, marked_after, marked_events, marked_final, marked_fresh, marked_words, marked_encode, NoClearInProgress, MarkRefused, MarkCase}
+use Rattle.clear_mark.specs.ClearMark.{Marks, MarkedDevice, mark_of, mark_hits, marked_step, marks_after, marked_after, marked_events, marked_final, marked_fresh, marked_words, marked_encode, NoClearInProgress, MarkRefused, MarkCase}
 use Rattle.table.proofs.Records.{queue_part, block_part}
 use Rattle.table.proofs.Theorems.{meets_laws, well_sized, well_eight}
 
@@ -43,7 +43,7 @@ Unmarked m = (n : ℕ) (q : QueueType) → m n q ≡ false
 
 -- A step
 
-unmarked_of : (m : Marks) (n : ℕ) (x : Option QueueType) → Unmarked m → mark_of_queue m n x ≡ false
+unmarked_of : (m : Marks) (n : ℕ) (x : Option QueueType) → Unmarked m → mark_of m n x ≡ false
 unmarked_of m n none u = refl
 unmarked_of m n (some q) u = u n q
 

@@ -28,16 +28,16 @@ pub record MarkedDevice : Type 0 where
 -- The rule
 
 -- the mark of the queue that a frame names, if it names one
-abbrev pub mark_of_queue : Marks → ℕ → Option QueueType → Bool
-mark_of_queue m n none = false
-mark_of_queue m n (some q) = m n q
+abbrev pub mark_of : Marks → ℕ → Option QueueType → Bool
+mark_of m n none = false
+mark_of m n (some q) = m n q
 
 -- A queueing comes to its mark behind the tests of its length, of its stream, of its queue type and of its size count. That of an input while
 -- draining stands before it too, and has the same answer.
 unfoldable pub mark_hits : MarkedDevice → Act → Bool
 mark_hits d (command t f) =
     is_type 0x0105 f && (eqb (length f) 64 && (not (is_none (record_of (stream_id f) d.device.places))
-    && (not (ltb max_planes (num_data_sizes f)) && mark_of_queue d.marks (stream_id f) (queue_named (queue_type f)))))
+    && (not (ltb max_planes (num_data_sizes f)) && mark_of d.marks (stream_id f) (queue_named (queue_type f)))))
 mark_hits d (finish n qt r flags ts) = false
 mark_hits d (drained n) = false
 
