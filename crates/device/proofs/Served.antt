@@ -3,11 +3,12 @@ use mathlib.Core.Path.{◌≡◌, refl, sym, ap, ◌∙◌, subst}
 use mathlib.Core.Bool.{Bool, true, false}
 use mathlib.Core.Option.{Option, none, some}
 use mathlib.Core.List.{List, [], ◌∷◌}
-use Prim.Native.Nat.{ℕ, ◌+◌, ◌*◌, ◌-◌, ◌%◌, ◌^◌, ◌<◌}
+use Prim.Native.Nat.{ℕ, ◌+◌, ◌*◌, ◌-◌, ◌%◌, ◌^◌, ◌<◌, ◌≤◌}
 use native.Mathlib.Omega.{arith}
 use native.Mathlib.Nat.{add-sub_cancel_left}
 use lib.ListN.{length, set, take, length-set}
 use lib.Seq.{get_or-set_same}
+use borrow.Author.Tests.{le-ltb}
 use Rattle.laws.specs.Parts.{part, with_part}
 use Rattle.laws.specs.Lists.{all_of}
 use Rattle.laws.specs.Stores.{Wrote}
@@ -217,6 +218,10 @@ module _ {words : List ℕ} {d : Device} (h : Encodes words d) where
 pub of_stream_lem : {d : Device} {n m : ℕ} {a : Act} {left room room' : List ℕ} {refusal written : ℕ} → n ≡ m → Served d n a left room room' refusal written
     → Served d m a left room room' refusal written
 of_stream_lem {d} {a = a} {left} {room} {room'} {refusal} {written} e x = subst (λ (k : ℕ). Served d k a left room room' refusal written) e x
+
+-- a number above the last may not be taken
+pub above_unusable : (d : Device) (n : ℕ) → stream_numbers ≤ n → true ≡ (around d n).unusable
+above_unusable d n h = rw (le-ltb n stream_numbers h)
 
 -- a command's reply has no refusal number
 pub answered_command : {n : ℕ} {block room room' : List ℕ} {written : ℕ} (around : Surroundings) (b : Stream) (t : ℕ) (f : List ℕ)

@@ -32,6 +32,7 @@ pub fn vacant_place(t: &[u32]) -> Found
 }
 
 // Whether a creation may not take the number: it is above the last, or spent.
+#[tactic(auto, using(crate::proofs::Served::above_unusable))]
 pub fn unusable(t: &[u32], number: u32) -> bool
     requires { length t.now ≡ table_words }
     ensures below { result ≡ false → number < stream_numbers }

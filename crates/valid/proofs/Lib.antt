@@ -1,3 +1,4 @@
+pub mod Zeros
 pub mod Elements
 pub mod QueueStands
 pub mod FigureStands
