@@ -1,4 +1,3 @@
-pub mod Zeros
 pub mod Elements
 pub mod QueueStands
 pub mod FigureStands

@@ -15,7 +15,7 @@ use queue::{
 };
 
 // Whether all words are zero. It never stops early, so that the compiler takes several words at once.
-#[tactic(auto, using(crate::proofs::Zeros::zero_here))]
+#[tactic(auto, using(laws::proofs::Same::zero_here))]
 pub fn all_zero(s: &[u32]) -> bool
     ensures { result ≡ same s.now (zeros (length s.now)) }
 {

@@ -25,4 +25,4 @@ pub returns : goal.returns
 returns c =
     let read = command_read c.args.line.now c.args.frame.now c.requires.1 (omega arith) c.requires.2 _ _ _ _ refl
     c.unhex.ensures c.read_u32.ensures c.unhex-2.ensures in
-    let rest = read in record { fits = omega arith; means = rest.0; stored = rest.1 }
+    record { fits = omega arith; means = read.0; stored = read.1 }
