@@ -37,7 +37,7 @@ for record in filter(None, re.split(r"\n\s*\n", text.strip())):
         records.append((crate, name, body + "\n"))
 assert len({(crate, name) for crate, name, _ in records}) == len(records), "a name stands twice"
 
-SHAPES = re.compile(r"has no `|not in scope|is no item|has no field|mismatched types|no such|unknown|cannot find|is already declared|expected `.*Proof")
+SHAPES = re.compile(r"has no `|: record `|not in scope|is no item|has no field|mismatched types|no such|unknown|cannot find|is already declared|expected `.*Proof")
 # What rt prints of an edit that is refused: the first error, cut short.
 REFUSED = r"must-fail (\S+)/(\S+?)\.edit: refused, as it must be: (?:\./)?(.*)"
 
