@@ -1,5 +1,4 @@
 pub mod Alike
-pub mod Due
+pub mod DueText
 pub mod Checked
-pub mod Parted
 pub mod Log

@@ -1,3 +1,2 @@
 pub mod Meant
-pub mod Took
 pub mod Promises

@@ -2,42 +2,38 @@
 // is a line's step in `replay`.
 #![tactic(auto)]
 
-ghost use Rattle.std.specs.Prelude.{◌≡◌, List, [], ℕ, ◌<◌, ◌≤◌, length, take};
+ghost use Rattle.std.specs.Prelude.{◌≡◌, ◌<◌, ◌≤◌, [], length, Some};
 ghost use Rattle.table.specs.Blocks.{layout};
+ghost use Rattle.line.specs.Split.{split};
+ghost use Rattle.line.specs.Log.{fresh_table};
 ghost use Rattle.log_verdict.specs.Checking.{right_so_far, conclude, log_verdict, fault_number};
-ghost use Rattle.log_verdict.specs.InPieces.{check_piece, check_last};
-ghost use Rattle.checker.specs.Meant.{fault_meant, verdict_meant, numbered_by, state_in};
-ghost use Rattle.checker.specs.Took.{Took};
+ghost use Rattle.log_verdict.specs.InPieces.{CheckReader, check_piece, check_last};
+ghost use Rattle.checker.specs.Meant.{fault_meant, verdict_meant, numbered_by, fault_text, wrong_text, has_stopped, state_in};
 
-use line::LINE_ROOM;
-use protocol::NO_FRAME;
+use crate::lines::Check;
+pub use crate::lines::Due;
+use line::KeptLine;
+use std::fmt;
+use std::marker::Model;
+use table::TABLE_WORDS;
 
 mod kinds;
 mod lines;
-mod pieces;
-mod whole;
 
-// What is wrong with a line, or with the end of the log.
-#[derive(Clone, Copy)]
+// What is wrong with a line, or with the end of the log. Of a line that is refused the number is the refusal's.
+#[derive(Clone, Copy, Debug)]
 pub enum Fault {
-    MissingAnswer,
-    ExtraAnswer,
-    DifferentAnswer,
-    LineRefused,
+    MissingAnswer = 1,
+    ExtraAnswer = 2,
+    DifferentAnswer = 3,
+    LineRefused = 7,
 }
 
-// How the check stands before a line. Where nothing was wrong so far: the number of the line, and where in the text of the last question's answers
-// those that are due begin and end. Else the first wrong line.
-#[derive(Clone, Copy)]
-pub enum CheckState {
-    RightSoFar { line: u64, at: usize, end: usize },
-    StoppedAt { fault: Fault, line: u64 },
-}
-
-#[derive(Clone, Copy)]
-pub enum LogVerdict {
-    AcceptedLog,
-    WrongLine { fault: Fault, line: u64 },
+// The first wrong line of a log.
+#[derive(Clone, Copy, Debug)]
+pub struct WrongLine {
+    pub fault: Fault,
+    pub line: u64,
 }
 
 // A verdict as it crosses to the host: the line that is named, or 0, and the verdict's number.
@@ -48,22 +44,96 @@ pub struct NumberedVerdict {
     pub verdict: u32,
 }
 
-// What a call on a piece did: the bytes used of it, the bytes kept of the line that has not ended, how the check stands.
-#[derive(Clone, Copy)]
-pub struct TakenPiece {
-    pub used: usize,
-    pub have: usize,
-    pub state: CheckState,
+// A log that is checked in pieces, in fixed memory: how the check stands, and what is kept of the line that has not ended.
+#[derive(Drop)]
+pub struct Checker<'a> {
+    check: Check<'a>,
+    kept: KeptLine,
+}
+
+impl<'a> Model for Checker<'a> {
+    ghost Value = { CheckReader };
+
+    ghost view = { λ c. record { state = c.check; line = c.kept } };
+}
+
+impl<'a> Checker<'a> {
+    // Before the first line, on any table.
+    pub fn on_table(table: &'a mut [u32]) -> Checker<'a>
+        ensures { result ≡ record { state = right_so_far table.old [] 1; line = [] } }
+    {
+        Checker {
+            check: Check::on_table(table),
+            kept: KeptLine::new(),
+        }
+    }
+
+    // Anywhere in a log.
+    pub fn standing(
+        table: &'a mut [u32],
+        text: [u8; 2112],
+        state: Result<Due, WrongLine>,
+        kept: KeptLine,
+    ) -> Checker<'a>
+        ensures { result ≡ record { state = state_in state table.old text; line = kept } }
+    {
+        Checker {
+            check: Check::standing(table, text, state),
+            kept,
+        }
+    }
+
+    // Takes a piece up to its first byte 10 behind what is kept of the line, and checks the line where it ends; returns the bytes used.
+    pub fn take_piece(&mut self, piece: &[u8]) -> usize
+        ensures uses { (result ≤ length piece.now) × (0 < length piece.now → 0 < result) }
+        ensures used { result ≡ (split [] piece.now).used }
+        ensures means { self.new ≡ check_piece layout self.old piece.now }
+    {
+        match self.kept.gather(piece) {
+            Some(used) => {
+                self.check.check_line(self.kept.bytes());
+                self.kept.clear();
+                used
+            }
+            None => piece.len(),
+        }
+    }
+
+    // Whether a line was wrong: then no more need be read.
+    pub fn has_stopped(&self) -> bool
+        ensures { result ≡ has_stopped self.now.state }
+    {
+        self.check.has_stopped()
+    }
+
+    // The verdict where the log ends: the last line is checked too, unless it is empty.
+    pub fn verdict(self) -> Result<(), WrongLine>
+        ensures { verdict_meant result ≡ conclude (check_last layout self.entry) }
+    {
+        let Checker { mut check, kept } = self;
+        if !kept.is_empty() {
+            check.check_line(kept.bytes());
+        }
+        check.verdict()
+    }
 }
 
 // The verdict on a whole log.
-pub fn check_log(log: &[u8]) -> LogVerdict
+pub fn check_log(log: &[u8]) -> Result<(), WrongLine>
     ensures { verdict_meant result ≡ log_verdict layout log.now }
 {
-    let mut table = [0u32; table::TABLE_WORDS];
-    table::fresh(&mut table);
-    let mut text = [0u8; 2112];
-    whole::verdict_from(&mut table, &mut text, log)
+    let mut table = fresh_table();
+    let mut check = Check::on_table(&mut table);
+    check.check_lines(log);
+    check.verdict()
+}
+
+fn fresh_table() -> [u32; TABLE_WORDS]
+    ensures { result ≡ fresh_table layout }
+{
+    let mut table = [0; TABLE_WORDS];
+    let _ = table::fresh(&mut table);
+    table
 }
 
 // The verdict on a whole log, in numbers.
@@ -74,75 +144,47 @@ pub fn numbered_verdict(log: &[u8]) -> NumberedVerdict
 }
 
 // A verdict's line and number.
-fn in_numbers(verdict: LogVerdict) -> NumberedVerdict
+fn in_numbers(verdict: Result<(), WrongLine>) -> NumberedVerdict
     ensures { result ≡ numbered_by (verdict_meant verdict) }
 {
     match verdict {
-        LogVerdict::AcceptedLog => NumberedVerdict {
+        Ok(()) => NumberedVerdict {
             line: 0,
             verdict: 0,
         },
-        LogVerdict::WrongLine { fault, line } => NumberedVerdict {
-            line: line,
-            verdict: fault_number(fault),
+        Err(wrong) => NumberedVerdict {
+            line: wrong.line,
+            verdict: fault_number(wrong.fault),
         },
     }
 }
 
-// How the check stands before the first line, on any table, with nothing due whatever the text.
-pub fn opening() -> CheckState
-    ensures { (t text : List ℕ) → state_in result t text ≡ right_so_far t [] 1 }
-{
-    CheckState::RightSoFar {
-        line: 1,
-        at: 0,
-        end: 0,
-    }
-}
-
-// Takes a piece up to its first byte 10 behind the `have` bytes that `held` keeps of the line, and checks the line where it ends.
-pub fn take_piece(
-    table: &mut [u32],
-    text: &mut [u8; 2112],
-    held: &mut [u8; 8379],
-    have: usize,
-    state: CheckState,
-    piece: &[u8],
-) -> TakenPiece
-    ensures uses { (result.used ≤ length piece.now) × (0 < length piece.now → 0 < result.used) }
-    ensures means { Took (check_piece layout (record { state = state_in state table.old text.old; line = take have held.old }) piece.now) piece.now result table.new text.new held.new }
-{
-    pieces::take_piece(
-        table,
-        text,
-        held,
-        line::at_most(have, LINE_ROOM),
-        state,
-        piece,
-    )
-}
-
-// The verdict where the log ends: the last line is checked too, unless it is empty. What is left in table and text has no use any more, and is free.
-pub fn last_verdict(
-    table: &mut [u32],
-    text: &mut [u8; 2112],
-    held: &[u8; 8379],
-    have: usize,
-    state: CheckState,
-) -> LogVerdict
-    ensures { verdict_meant result ≡ conclude (check_last layout (record { state = state_in state table.old text.old; line = take have held.now })) }
-{
-    pieces::last_verdict(table, text, held, line::at_most(have, LINE_ROOM), state)
-}
-
-// The number of a fault. Of a line that is refused it is the refusal's.
+// The number of a fault.
 fn fault_number(fault: Fault) -> u32
     ensures { result ≡ fault_number (fault_meant fault) }
 {
-    match fault {
-        Fault::MissingAnswer => 1,
-        Fault::ExtraAnswer => 2,
-        Fault::DifferentAnswer => 3,
-        Fault::LineRefused => NO_FRAME,
+    fault as u32
+}
+
+impl fmt::Display for Fault {
+    ghost output = { λ f. Some (fault_text f) };
+
+    fn fmt<W: fmt::Write>(&self, f: &mut fmt::Formatter<W>) -> fmt::Result {
+        f.write_str(match self {
+            Fault::MissingAnswer => "missing",
+            Fault::ExtraAnswer => "extra",
+            Fault::DifferentAnswer => "different",
+            Fault::LineRefused => "refused 7",
+        })
     }
 }
+
+impl fmt::Display for WrongLine {
+    ghost output = { λ w. Some (wrong_text w) };
+
+    fn fmt<W: fmt::Write>(&self, f: &mut fmt::Formatter<W>) -> fmt::Result {
+        write!(f, "line {}: {}", self.line, self.fault)
+    }
+}
+
+impl std::error::Error for WrongLine {}

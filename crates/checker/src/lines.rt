@@ -1,41 +1,151 @@
-// One line, and the end of the log.
-ghost use Rattle.std.specs.Prelude.{◌≡◌, List, ℕ, suc, ◌≤◌, min, length};
+// How the check of a log stands, and what a line makes of it.
+ghost use Rattle.std.specs.Prelude.{◌≡◌, List, [], ℕ, suc, ◌≤◌, min, length};
 ghost use Rattle.table.specs.Blocks.{layout};
-ghost use Rattle.log_verdict.specs.Kinds.{question_kind, answer_kind};
-ghost use Rattle.log_verdict.specs.Checking.{check_by, conclude};
-ghost use Rattle.log_verdict.specs.InPieces.{last_number, in64, check_in64};
-ghost use Rattle.checker.specs.Meant.{due_in, state_in, verdict_meant};
+ghost use Rattle.line.specs.Split.{lines_in};
+ghost use Rattle.log_verdict.specs.Kinds.{question_kind, answer_kind, kind_of};
+ghost use Rattle.log_verdict.specs.Checking.{CheckState, right_so_far, check_by, conclude};
+ghost use Rattle.log_verdict.specs.InPieces.{last_number, in64, check_in64, check_lines_in64};
+ghost use Rattle.checker.specs.Meant.{due_in, state_in, InRange, verdict_meant, has_stopped};
 
 use crate::kinds::{LineKind, kind_of, same_line};
-use crate::{CheckState, Fault, LogVerdict};
+use crate::{Fault, WrongLine};
+use std::marker::Model;
 
-// Checks a line, on the checker's own table and the text of the answers that are due.
-pub fn check_line(
+// Before a line, where nothing was wrong so far: its number, and where in the text of the last question's answers those that are due begin and end.
+#[derive(Clone, Copy)]
+pub struct Due {
+    pub line: u64,
+    pub at: usize,
+    pub end: usize,
+}
+
+impl Due {
+    // Before the next line, whose number is counted as far as 64 bits do.
+    fn next(self, at: usize, end: usize) -> Due
+        ensures { result ≡ record { line = min (suc self.line) last_number; at = at; end = end } }
+    {
+        Due {
+            line: self.line.saturating_add(1),
+            at,
+            end,
+        }
+    }
+
+    // A fault of the line.
+    fn wrong(self, fault: Fault) -> WrongLine
+        ensures { result ≡ record { fault = fault; line = self.line } }
+    {
+        WrongLine {
+            fault,
+            line: self.line,
+        }
+    }
+}
+
+// How the check stands before a line: the table that it was lent, the text of the last question's answers, and what is due, or the first wrong line.
+#[derive(Drop)]
+pub struct Check<'a> {
+    table: &'a mut [u32],
+    text: [u8; 2112],
+    state: Result<Due, WrongLine>,
+}
+
+impl<'a> Model for Check<'a> {
+    ghost Value = { CheckState };
+
+    ghost view = { λ c. state_in c.state c.table.now c.text };
+
+    ghost invariant = { λ c. InRange c.state × (length c.text ≡ 2112) };
+}
+
+impl<'a> Check<'a> {
+    // Before the first line, on a table, with nothing due.
+    pub fn on_table(table: &'a mut [u32]) -> Check<'a>
+        ensures { result ≡ right_so_far table.old [] 1 }
+    {
+        let first = Due {
+            line: 1,
+            at: 0,
+            end: 0,
+        };
+        Check::standing(table, [0; 2112], Ok(first))
+    }
+
+    // Anywhere in a log.
+    pub fn standing(
+        table: &'a mut [u32],
+        text: [u8; 2112],
+        state: Result<Due, WrongLine>,
+    ) -> Check<'a>
+        ensures { result ≡ state_in state table.old text }
+    {
+        let state = match state {
+            Ok(due) => Ok(Due {
+                end: due.end.min(text.len()),
+                ..due
+            }),
+            Err(wrong) => Err(wrong),
+        };
+        Check { table, text, state }
+    }
+
+    // Checks the lines of a log, one after the other.
+    pub fn check_lines(&mut self, log: &[u8])
+        ensures { self.new ≡ check_lines_in64 layout self.old (lines_in log.now) }
+    {
+        let mut rest = log;
+        while !rest.is_empty() {
+            let (line, others) = line::first_line(rest);
+            self.check_line(line);
+            rest = others;
+        }
+    }
+
+    // Checks a line. Where one was wrong, nothing that follows is looked at.
+    pub fn check_line(&mut self, line: &[u8])
+        ensures { self.new ≡ check_in64 layout self.old line.now }
+    {
+        let Ok(due) = self.state else {
+            return;
+        };
+        let state = check_by_kind(self.table, &mut self.text, due, line);
+        self.state = state;
+    }
+
+    pub fn has_stopped(&self) -> bool
+        ensures { result ≡ has_stopped self.now }
+    {
+        self.state.is_err()
+    }
+
+    // The verdict where the log ends.
+    pub fn verdict(&self) -> Result<(), WrongLine>
+        ensures { verdict_meant result ≡ conclude self.now }
+    {
+        let due = self.state?;
+        if due.at < due.end {
+            return Err(due.wrong(Fault::MissingAnswer));
+        }
+        Ok(())
+    }
+}
+
+// A line where nothing was wrong so far.
+fn check_by_kind(
     table: &mut [u32],
     text: &mut [u8; 2112],
-    state: CheckState,
+    due: Due,
     line: &[u8],
-) -> CheckState
-    ensures { state_in result table.new text.new ≡ check_in64 layout (state_in state table.old text.old) line.now }
+) -> Result<Due, WrongLine>
+    requires { due.end ≤ length text.old }
+    ensures size { length text.new ≡ 2112 }
+    ensures fits { InRange result }
+    ensures means { state_in result table.new text.new ≡ in64 (check_by layout (kind_of line.now) table.old (due_in due.at due.end text.old) due.line line.now) }
 {
-    let CheckState::RightSoFar {
-        line: number,
-        at,
-        end,
-    } = state
-    else {
-        return state;
-    };
-    let all: &[u8] = text;
-    let last = line::at_most(end, all.len());
-    let kind = kind_of(line);
-    match kind {
-        LineKind::QuestionKind => check_question(table, text, number, at, last, line),
-        LineKind::AnswerKind => check_answer(text, number, at, last, line),
-        LineKind::NeitherKind => CheckState::StoppedAt {
-            fault: Fault::LineRefused,
-            line: number,
-        },
+    match kind_of(line) {
+        Some(LineKind::QuestionKind) => check_question(table, text, due, line),
+        Some(LineKind::AnswerKind) => check_answer(text, due, line),
+        None => Err(due.wrong(Fault::LineRefused)),
     }
 }
 
@@ -43,81 +153,33 @@ pub fn check_line(
 fn check_question(
     table: &mut [u32],
     text: &mut [u8; 2112],
-    number: u64,
-    at: usize,
-    end: usize,
+    due: Due,
     line: &[u8],
-) -> CheckState
-    requires { end ≤ length text.old }
-    ensures { state_in result table.new text.new ≡ in64 (check_by layout question_kind table.old (due_in at end text.old) number line.now) }
+) -> Result<Due, WrongLine>
+    requires { due.end ≤ length text.old }
+    ensures size { length text.new ≡ 2112 }
+    ensures fits { InRange result }
+    ensures means { state_in result table.new text.new ≡ in64 (check_by layout question_kind table.old (due_in due.at due.end text.old) due.line line.now) }
 {
-    if at < end {
-        return CheckState::StoppedAt {
-            fault: Fault::MissingAnswer,
-            line: number,
-        };
+    if due.at < due.end {
+        return Err(due.wrong(Fault::MissingAnswer));
     }
     let written = replay::log_line(table, line, text);
-    CheckState::RightSoFar {
-        line: next_number(number),
-        at: 0,
-        end: written,
-    }
+    Ok(due.next(0, written))
 }
 
 // An answer: it is to be the first of those that are due.
-fn check_answer(text: &[u8], number: u64, at: usize, end: usize, line: &[u8]) -> CheckState
-    requires { end ≤ length text.now }
-    ensures { (t : List ℕ) → state_in result t text.now ≡ in64 (check_by layout answer_kind t (due_in at end text.now) number line.now) }
+fn check_answer(text: &[u8; 2112], due: Due, line: &[u8]) -> Result<Due, WrongLine>
+    requires { due.end ≤ length text.now }
+    ensures fits { InRange result }
+    ensures means { (t : List ℕ) → state_in result t text.now ≡ in64 (check_by layout answer_kind t (due_in due.at due.end text.now) due.line line.now) }
 {
-    if end <= at {
-        return CheckState::StoppedAt {
-            fault: Fault::ExtraAnswer,
-            line: number,
-        };
+    if due.end <= due.at {
+        return Err(due.wrong(Fault::ExtraAnswer));
     }
-    let next = at + line::line_end(&text[at..end]);
-    if !same_line(line, &text[at..next]) {
-        return CheckState::StoppedAt {
-            fault: Fault::DifferentAnswer,
-            line: number,
-        };
+    let (answer, others) = line::first_line(&text[due.at..due.end]);
+    if !same_line(line, answer) {
+        return Err(due.wrong(Fault::DifferentAnswer));
     }
-    CheckState::RightSoFar {
-        line: next_number(number),
-        at: next + 1,
-        end: end,
-    }
-}
-
-// The number of the next line, as far as 64 bits count.
-fn next_number(n: u64) -> u64
-    ensures { result ≡ min (suc n) last_number }
-{
-    if n == u64::MAX {
-        return n;
-    }
-    n + 1
-}
-
-// The verdict where the log ends, whatever stands in the table.
-pub fn concluded(state: CheckState, text: &[u8]) -> LogVerdict
-    ensures { (t : List ℕ) → verdict_meant result ≡ conclude (state_in state t text.now) }
-{
-    match state {
-        CheckState::RightSoFar { line, at, end } => {
-            if at < line::at_most(end, text.len()) {
-                LogVerdict::WrongLine {
-                    fault: Fault::MissingAnswer,
-                    line: line,
-                }
-            } else {
-                LogVerdict::AcceptedLog
-            }
-        }
-        CheckState::StoppedAt { fault, line } => LogVerdict::WrongLine {
-            fault: fault,
-            line: line,
-        },
-    }
+    Ok(due.next(due.end - others.len(), due.end))
 }

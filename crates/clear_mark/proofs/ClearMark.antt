@@ -1,7 +1,7 @@
 -- The statements of specs/ClearMark, proved: with and without the clear-in-progress mark every list of steps from a fresh table shows the same.
 use mathlib.Core.Path.{◌≡◌, refl, sym, ap, ap₂, ◌∙◌}
 use mathlib.Core.Bool.{true, false, and-false}
-use mathlib.Core.Option.{Option, none, some}
+use Rattle.std.specs.Prelude.{Option, None, Some}
 use mathlib.Core.List.{List, [], ◌∷◌, ◌++◌}
 use Prim.Native.Nat.{ℕ, ◌+◌, ◌*◌, ◌<◌}
 use native.Mathlib.Nat.{add-zero}
@@ -44,8 +44,8 @@ Unmarked m = (n : ℕ) (q : QueueType) → m n q ≡ false
 -- A step
 
 unmarked_of : (m : Marks) (n : ℕ) (x : Option QueueType) → Unmarked m → mark_of m n x ≡ false
-unmarked_of m n none u = refl
-unmarked_of m n (some q) u = u n q
+unmarked_of m n None u = refl
+unmarked_of m n (Some q) u = u n q
 
 no_hit_of : (d : MarkedDevice) (a : Act) → Unmarked d.marks → mark_hits d a ≡ false
 unfolding mark_hits
@@ -145,18 +145,18 @@ no_clear_in_progress t ss h m =
 -- A table that carries a mark
 
 module _ (t : List ℕ) (v : valid layout t ≡ true) (k : ℕ) (q : QueueType) (h : k < 8) where
-  abbrev read : Device
-  read = decode (take table_words t)
+  abbrev device_read : Device
+  device_read = decode (take table_words t)
 
-  block : part (512 * k) 512 (take table_words t) ≡ place_words (place_at k read.places)
-  block = block_part read (well_sized read (valid_device layout t v)) (well_eight read (valid_device layout t v)) (take table_words t) k h (valid_used layout t v)
+  block : part (512 * k) 512 (take table_words t) ≡ place_words (place_at k device_read.places)
+  block = block_part device_read (well_sized device_read (valid_device layout t v)) (well_eight device_read (valid_device layout t v)) (take table_words t) k h (valid_used layout t v)
 
   valid_spare : get_or t (512 * k + queue_start q) 0 ≡ 0
   valid_spare =
       sym (get_or-take table_words t (512 * k + queue_start q) 0 (omega (arith, queue_inside q)))
       ∙ sym (get_or-take 512 (drop (512 * k) (take table_words t)) (queue_start q) 0 (queue_inside q) ∙ get_or-drop (512 * k) (take table_words t) (queue_start q) 0)
       ∙ ap (λ (w : List ℕ). get_or w (queue_start q) 0) block
-      ∙ spare_zero (place_at k read.places) q (all_get_d has_all_slots read.places k vacant refl (well_sized read (valid_device layout t v)))
+      ∙ spare_zero (place_at k device_read.places) q (all_get_d has_all_slots device_read.places k vacant refl (well_sized device_read (valid_device layout t v)))
 
 pub mark_refused : MarkRefused
 unfolding effect host_refusal

@@ -2,7 +2,7 @@
 -- on a queue whose mark stands is refused. It is written around the present step, with the marks beside the device. This file is the only one
 -- that names both rules, and only its proof uses it.
 use Rattle.std.specs.Prelude.{ℕ, ◌+◌, ◌*◌, ◌<◌, ◌≤◌, ◌≡◌, Bool, true, false, cond, not, ◌&&◌, List, [], ◌∷◌, ◌++◌, map, length, get_or, set, drop, eqb, ltb}
-use Rattle.std.proofs.Math.Option.{Option, none, some}
+use Rattle.std.specs.Prelude.{Option, None, Some}
 use Rattle.laws.specs.Lists.{is_none}
 use Rattle.laws.specs.Parts.{pieces}
 use Rattle.model.specs.Numbers.{table_words, answer_room, stream_places, max_planes}
@@ -29,8 +29,8 @@ pub record MarkedDevice : Type 0 where
 
 -- the mark of the queue that a frame names, if it names one
 abbrev pub mark_of : Marks → ℕ → Option QueueType → Bool
-mark_of m n none = false
-mark_of m n (some q) = m n q
+mark_of m n None = false
+mark_of m n (Some q) = m n q
 
 -- A queueing comes to its mark behind the tests of its length, of its stream, of its queue type and of its size count. That of an input while
 -- draining stands before it too, and has the same answer.

@@ -1,7 +1,7 @@
 -- Laws of the reports, of a clear and of a destroy on a stream's block.
 use mathlib.Core.Path.{◌≡◌, refl, sym, ap, ◌∙◌, subst}
 use mathlib.Core.Bool.{Bool, true, false, not}
-use mathlib.Core.Option.{Option, none, some}
+use Rattle.std.specs.Prelude.{Option, None, Some}
 use mathlib.Core.List.{List, [], ◌∷◌, ◌++◌, append_assoc, append-nil, map-append}
 use Prim.Native.Nat.{ℕ, ◌+◌, ◌-◌, ◌≤◌}
 use native.Mathlib.Omega.{arith}
@@ -15,7 +15,7 @@ use Rattle.laws.specs.Ascending.{not_below}
 use Rattle.laws.proofs.Lists.{none_is, no_element, keep_ext, keep_const}
 use Rattle.laws.proofs.Ascending.{length_ascending}
 use Rattle.laws.proofs.Stores.{wrote_none, wrote_append}
-use Rattle.model.specs.Device.{QueueType, input, output, is_input, dequeued, Slot, resource, Queue, Stream, occupied, queue_of, with_queue, with_drain, with_slots, Buffer, buffer, queued_in, by_resource, buffer_of, no_resource, place}
+use Rattle.model.specs.Device.{QueueType, input, output, dequeued, Slot, resource, Queue, Stream, occupied, queue_of, with_queue, with_drain, with_slots, Buffer, buffer, queued_in, by_resource, buffer_of, no_resource, place}
 use Rattle.model.specs.Frames.{queue_named}
 use Rattle.model.specs.Answers.{buffer_done, drain_done, Answer, response_type, bytes_of}
 use Rattle.model.specs.Replies.{Reply, refuse, reply}
@@ -36,7 +36,7 @@ use Rattle.completion.specs.Done.{Done, clear_answers, destroy_answers, clear_le
 
 -- Reports that are refused, and reports that are answered
 
-pub refused_done : {n k refusal written : ℕ} {b : Stream} {v : Reply} {w room : List ℕ} → (refusal ≡ k) × (written ≡ 0) → BlockOf n w b → v ≡ refuse k (some b)
+pub refused_done : {n k refusal written : ℕ} {b : Stream} {v : Reply} {w room : List ℕ} → (refusal ≡ k) × (written ≡ 0) → BlockOf n w b → v ≡ refuse k (Some b)
     → Done n v w room room refusal written
 refused_done {room = room} told h e = record { refusal_is = rw e told.0; replied = record { words = rw e h.held; bytes = rw (e, told.1) (wrote_none room 0) } }
 
@@ -47,23 +47,20 @@ answered_done {n} {r} {w = w} {d = d} {e = e} l s is held bytes =
 -- A drained report
 
 module _ (n : ℕ) (b : Stream) where
-  pub drained_none : none ≡ b.draining → on_drained n (some b) ≡ refuse 5 (some b)
+  pub drained_none : None ≡ b.draining → on_drained n (Some b) ≡ refuse 5 (Some b)
   unfolding on_drained
   drained_none e = ap (answer_drain n b) (sym e)
 
-  pub drained_early : (t : ℕ) → some t ≡ b.draining → drain_over b ≡ false → on_drained n (some b) ≡ refuse 5 (some b)
+  pub drained_early : (t : ℕ) → Some t ≡ b.draining → drain_over b ≡ false → on_drained n (Some b) ≡ refuse 5 (Some b)
   unfolding on_drained
   drained_early t e h = ap (answer_drain n b) (sym e) ∙ rw h
 
-  pub drained_ends : (t : ℕ) → some t ≡ b.draining → drain_over b ≡ true → on_drained n (some b) ≡ reply (answer_to t n drain_done ∷ []) (some (with_drain none b))
+  pub drained_ends : (t : ℕ) → Some t ≡ b.draining → drain_over b ≡ true → on_drained n (Some b) ≡ reply (answer_to t n drain_done ∷ []) (Some (with_drain None b))
   unfolding on_drained
   drained_ends t e h = ap (answer_drain n b) (sym e) ∙ rw h
 
 -- whether a drain is over
 module _ (b : Stream) where
-  pub input_waits : input_queued b ≡ true → false ≡ drain_over b
-  input_waits h = rw h
-
   pub inputs_done : input_queued b ≡ false → no_resource b.outputs.slots ≡ drain_over b
   inputs_done h = rw h
 
@@ -73,34 +70,13 @@ pub done_as : {n k r : ℕ} {v v' : Reply} {w d e : List ℕ} → v' ≡ v → D
 done_as {n} {k} {r} {w = w} {d = d} {e = e} is x = subst (λ v. Done n v w d e k r) (sym is) x
 
 module _ (n queue m flags ts : ℕ) (b : Stream) where
-  pub finish_named : (q : QueueType) → flags ≤ 3 → queue_named queue ≡ some q → on_finish n queue m flags ts (some b) ≡ finish_buffer n m flags ts b q (buffer_of m (queued_in (queue_of q b).slots))
+  pub finish_named : (q : QueueType) → flags ≤ 3 → queue_named queue ≡ Some q → on_finish n queue m flags ts (Some b) ≡ finish_buffer n m flags ts b q (buffer_of m (queued_in (queue_of q b).slots))
   unfolding on_finish
   finish_named q h e = rw (le-ltb 3 flags h) (ap (finish_queue n m flags ts b) e)
 
-  pub finish_unnamed : flags ≤ 3 → queue_named queue ≡ none → on_finish n queue m flags ts (some b) ≡ refuse 5 (some b)
+  pub finish_unnamed : flags ≤ 3 → queue_named queue ≡ None → on_finish n queue m flags ts (Some b) ≡ refuse 5 (Some b)
   unfolding on_finish
   finish_unnamed h e = rw (le-ltb 3 flags h) (ap (finish_queue n m flags ts b) e)
-
--- EOS
-module _ (flags : ℕ) (q : QueueType) (b : Stream) where
-  pub eos_absent : has_eos flags ≡ false → false ≡ bad_eos flags q b
-  eos_absent h = rw h
-
-  pub eos_input : has_eos flags ≡ true → is_input q ≡ true → true ≡ bad_eos flags q b
-  eos_input h e = rw (h, e)
-
-  pub eos_draining : {t : ℕ} → has_eos flags ≡ true → is_input q ≡ false → some t ≡ b.draining → false ≡ bad_eos flags q b
-  eos_draining h e o = rw (h, e, ← o)
-
-  pub eos_no_drain : has_eos flags ≡ true → is_input q ≡ false → none ≡ b.draining → true ≡ bad_eos flags q b
-  eos_no_drain h e o = rw (h, e, ← o)
-
-module _ (flags : ℕ) (b : Stream) where
-  pub never_early : has_eos flags ≡ false → false ≡ early_eos flags b
-  never_early h = rw h
-
-  pub early_by_inputs : has_eos flags ≡ true → input_queued b ≡ early_eos flags b
-  early_by_inputs h = rw h
 
 -- the timestamp
 module _ (q : QueueType) (i : Buffer) (ts : ℕ) where
@@ -117,23 +93,23 @@ pub buffer_next : {d e : List ℕ} {at r : ℕ} (ticket stream ts flags : ℕ) (
 buffer_next {at = at} ticket stream ts flags q w = w.next ∙ ap (λ (k : ℕ). at + k) (buffer_length ticket stream ts flags q)
 
 module _ (n m flags ts : ℕ) (b : Stream) (q : QueueType) where
-  pub finish_absent : find_resource m (queue_of q b).slots ≡ none → finish_buffer n m flags ts b q (buffer_of m (queued_in (queue_of q b).slots)) ≡ refuse 5 (some b)
+  pub finish_absent : find_resource m (queue_of q b).slots ≡ None → finish_buffer n m flags ts b q (buffer_of m (queued_in (queue_of q b).slots)) ≡ refuse 5 (Some b)
   finish_absent e = ap (finish_buffer n m flags ts b q) (absent_buffer m (queue_of q b).slots (find_absent m (queue_of q b).slots e))
 
-  module _ (k : ℕ) (z : Distinct (queue_of q b).slots) (found : find_resource m (queue_of q b).slots ≡ some k) where
-    pub finish_idle : is_queued (slot_at k (queue_of q b).slots) ≡ false → finish_buffer n m flags ts b q (buffer_of m (queued_in (queue_of q b).slots)) ≡ refuse 5 (some b)
+  module _ (k : ℕ) (z : Distinct (queue_of q b).slots) (found : find_resource m (queue_of q b).slots ≡ Some k) where
+    pub finish_idle : is_queued (slot_at k (queue_of q b).slots) ≡ false → finish_buffer n m flags ts b q (buffer_of m (queued_in (queue_of q b).slots)) ≡ refuse 5 (Some b)
     finish_idle h =
         ap (finish_buffer n m flags ts b q) (none_is (buffer_of m (queued_in (queue_of q b).slots)) (find_queued m k (queue_of q b).slots found z ∙ ap not h))
 
     module _ (waits : is_queued (slot_at k (queue_of q b).slots) ≡ true) where
-      pub finish_eos : bad_eos flags q b ≡ true → finish_buffer n m flags ts b q (buffer_of m (queued_in (queue_of q b).slots)) ≡ refuse 6 (some b)
+      pub finish_eos : bad_eos flags q b ≡ true → finish_buffer n m flags ts b q (buffer_of m (queued_in (queue_of q b).slots)) ≡ refuse 6 (Some b)
       finish_eos e = ap (finish_buffer n m flags ts b q) (find_ticket m k (queue_of q b).slots found z waits) ∙ rw e
 
-      pub finish_early : bad_eos flags q b ≡ false → early_eos flags b ≡ true → finish_buffer n m flags ts b q (buffer_of m (queued_in (queue_of q b).slots)) ≡ refuse 5 (some b)
+      pub finish_early : bad_eos flags q b ≡ false → early_eos flags b ≡ true → finish_buffer n m flags ts b q (buffer_of m (queued_in (queue_of q b).slots)) ≡ refuse 5 (Some b)
       finish_early e o = ap (finish_buffer n m flags ts b q) (find_ticket m k (queue_of q b).slots found z waits) ∙ rw (e, o)
 
       pub finish_taken : bad_eos flags q b ≡ false → early_eos flags b ≡ false → finish_buffer n m flags ts b q (buffer_of m (queued_in (queue_of q b).slots))
-          ≡ reply (finish_answers n flags ts b q (buffer m (ticket_in (slot_at k (queue_of q b).slots)) (timestamp_in (slot_at k (queue_of q b).slots)))) (some (finish_leaves m flags b q))
+          ≡ reply (finish_answers n flags ts b q (buffer m (ticket_in (slot_at k (queue_of q b).slots)) (timestamp_in (slot_at k (queue_of q b).slots)))) (Some (finish_leaves m flags b q))
       finish_taken e o = ap (finish_buffer n m flags ts b q) (find_ticket m k (queue_of q b).slots found z waits) ∙ rw (e, o)
 
 -- The walk over the Queued buffers of a queue
@@ -185,7 +161,7 @@ module _ (n : ℕ) (t : QueueType) (s : List Slot) where
         let all : a.passed ≡ by_resource (queued_in s) = sym (append-nil a.passed) ∙ ap (λ (l : List Buffer). a.passed ++ l) (sym none_left) ∙ a.order in
         subst (λ (l : List Buffer). Wrote d e at m (bytes_of (stopped_answers n t l))) all a.wrote
 
-    pub along_missed : Distinct s → next_queued least s ≡ none → Wrote d e at m (bytes_of (stopped_answers n t (by_resource (queued_in s))))
+    pub along_missed : Distinct s → next_queued least s ≡ None → Wrote d e at m (bytes_of (stopped_answers n t (by_resource (queued_in s))))
     along_missed z h = ended (next_missed least s z h)
 
     pub along_full : length s ≡ 16 → 16 ≤ turn → Wrote d e at m (bytes_of (stopped_answers n t (by_resource (queued_in s))))
@@ -201,7 +177,7 @@ module _ (n : ℕ) (t : QueueType) (s : List Slot) where
         )))
 
     -- the same, by what the code reads
-    pub along_next : {f : List ℕ} {r : ℕ} (k v : ℕ) → v ≡ number_in (slot_at k s) → Distinct s → next_queued least s ≡ some k
+    pub along_next : {f : List ℕ} {r : ℕ} (k v : ℕ) → v ≡ number_in (slot_at k s) → Distinct s → next_queued least s ≡ Some k
         → ((i : Buffer) → i.ticket ≡ ticket_in (slot_at k s) → i.timestamp ≡ timestamp_in (slot_at k s) → Wrote e f m r (bytes_of (stopped_answers n t (i ∷ []))))
         → Along n t s d f at r (v + 1) (turn + 1)
     along_next {f} {r} k v is z found w =
@@ -217,17 +193,17 @@ module _ {d e : List ℕ} {at r : ℕ} (n : ℕ) where
       subst (λ (x : ℕ). Wrote d e at r (bytes_of (answer_to x n (buffer_done q ts' flags) ∷ []))) p
       (subst (λ (x : ℕ). Wrote d e at r (bytes_of (answer_to ticket n (buffer_done q x flags) ∷ []))) u w)
 
-  pub wrote_drain : (t : ℕ) (x : Option ℕ) → some t ≡ x → Wrote d e at r (plain_bytes t (response_type drain_done) n) → Wrote d e at r (bytes_of (drain_answers n x))
+  pub wrote_drain : (t : ℕ) (x : Option ℕ) → Some t ≡ x → Wrote d e at r (plain_bytes t (response_type drain_done) n) → Wrote d e at r (bytes_of (drain_answers n x))
   wrote_drain t x is w = subst (λ (o : Option ℕ). Wrote d e at r (bytes_of (drain_answers n o))) is (wrote_plain t n drain_done refl w)
 
   pub wrote_ended : (ends ends' : Bool) (b : Stream) → ends ≡ ends' → Wrote d e at r (bytes_of (drain_answers n (drain_ended ends b))) → Wrote d e at r (bytes_of (drain_answers n (drain_ended ends' b)))
   wrote_ended ends ends' b is w = subst (λ (x : Bool). Wrote d e at r (bytes_of (drain_answers n (drain_ended x b)))) is w
 
-pub wrote_no_drain : (d : List ℕ) (at n : ℕ) (x : Option ℕ) → none ≡ x → Wrote d d at at (bytes_of (drain_answers n x))
+pub wrote_no_drain : (d : List ℕ) (at n : ℕ) (x : Option ℕ) → None ≡ x → Wrote d d at at (bytes_of (drain_answers n x))
 wrote_no_drain d at n x is = subst (λ (o : Option ℕ). Wrote d d at at (bytes_of (drain_answers n o))) is (wrote_none d at)
 
 module _ (n : ℕ) (ends : Bool) (b : Stream) where
-  pub drain_ended_lem : ends ≡ true → place_words (occupied n (with_drain none b)) ≡ place_words (occupied n (without_ended ends b))
+  pub drain_ended_lem : ends ≡ true → place_words (occupied n (with_drain None b)) ≡ place_words (occupied n (without_ended ends b))
   drain_ended_lem e = rw e
 
   pub drain_left : ends ≡ false → place_words (occupied n b) ≡ place_words (occupied n (without_ended ends b))
@@ -249,7 +225,7 @@ queue_ended {n} {b = b} h ends q a at l ys f held back =
     ∙ ap (λ (y : Queue). place_words (occupied n (with_queue q (f y) x))) (queue_kept q ends b)
 
 -- the resource in slot k is the one that a finish names
-pub finish_leaves_lem : (m flags k : ℕ) (b : Stream) (q : QueueType) → Distinct (queue_of q b).slots → find_resource m (queue_of q b).slots ≡ some k
+pub finish_leaves_lem : (m flags k : ℕ) (b : Stream) (q : QueueType) → Distinct (queue_of q b).slots → find_resource m (queue_of q b).slots ≡ Some k
     → with_queue q (with_slots (set (queue_of q b).slots k (resource (number_in (slot_at k (queue_of q b).slots)) dequeued)) (queue_of q b)) (without_ended (has_eos flags) b) ≡ finish_leaves m flags b q
 finish_leaves_lem m flags k b q z found =
     let s = (queue_of q b).slots in
@@ -257,10 +233,10 @@ finish_leaves_lem m flags k b q z found =
     (ap (λ (r : ℕ). set s k (resource r dequeued)) (find_number m k s found) ∙ sym (find_set m k s found z dequeued))
 
 module _ (n t : ℕ) (f : List ℕ) (b : Stream) where
-  pub clear_is : (q : QueueType) → on_clear (request_to n t f b) b q ≡ reply (clear_answers n t q b) (some (clear_leaves q b))
+  pub clear_is : (q : QueueType) → on_clear (request_to n t f b) b q ≡ reply (clear_answers n t q b) (Some (clear_leaves q b))
   unfolding on_clear
   clear_is q = refl
 
-  pub destroy_is : on_destroy (request_to n t f b) b ≡ reply (destroy_answers n t b) none
+  pub destroy_is : on_destroy (request_to n t f b) b ≡ reply (destroy_answers n t b) None
   unfolding on_destroy
   destroy_is = refl

@@ -7,8 +7,7 @@ ghost use Rattle.model.specs.Commands.{drain_ended, without_ended, drain_answers
 ghost use Rattle.table.specs.Blocks.{place_words};
 ghost use Rattle.stream.specs.Replied.{BlockOf};
 
-use protocol::OK;
-use table::DrainState;
+use protocol::AnswerType;
 
 // Answers the drain that is pending, if one is, where the step ends it.
 pub fn ended_answer(block: &[u32], ends: bool, at: usize, stream: u32, room: &mut [u8]) -> usize
@@ -19,11 +18,10 @@ pub fn ended_answer(block: &[u32], ends: bool, at: usize, stream: u32, room: &mu
     if !ends {
         return at;
     }
-    let drain = table::pending_drain(block);
-    let DrainState::Draining(ticket) = drain else {
+    let Some(ticket) = table::pending_drain(block) else {
         return at;
     };
-    answer::put_plain(room, at, ticket, OK, stream)
+    answer::put_plain(room, at, ticket, AnswerType::Success, stream)
 }
 
 // Drops the pending drain from the block, where the step ends it.
@@ -32,6 +30,6 @@ pub fn end_drain(block: &mut [u32], ends: bool)
     ensures { (n : ℕ) (b : Stream) → block.old ≡ place_words (occupied n b) → block.new ≡ place_words (occupied n (without_ended ends b)) }
 {
     if ends {
-        table::drop_drain(block);
+        table::set_drain(block, None);
     }
 }

@@ -9,38 +9,33 @@ ghost use Rattle.queue.specs.Words.{queue_words};
 ghost use Rattle.queue.specs.Search.{slot_at, ticket_in, timestamp_in};
 ghost use Rattle.table.specs.Blocks.{place_words};
 ghost use Rattle.protocol.specs.QueueTypes.{queue_type_of};
-ghost use Rattle.stream.specs.Replied.{BlockOf, request_to, Replied};
+ghost use Rattle.stream.specs.Replied.{BlockOf, told, Replied};
 ghost use Rattle.completion.specs.Done.{clear_answers, destroy_answers, clear_leaves};
 
 use crate::drains::{end_drain, ended_answer};
-use protocol::{ERR, OK, QueueType};
-use queue::{Found, QUEUE_WORDS, SLOTS};
+use protocol::{AnswerType, ERR, QueueType};
+use queue::{QUEUE_WORDS, SLOTS};
+use stream::Asked;
 
 // 0x0107 clear: the Queued buffers of a queue and, for input, a pending drain are answered, then the command; then the changes are made.
-pub fn clear(block: &mut [u32], stream: u32, ticket: u32, q: QueueType, room: &mut [u8]) -> usize
+pub fn clear(block: &mut [u32], asked: Asked, q: QueueType, room: &mut [u8]) -> usize
     requires { (length block.old ≡ 512) × (1056 ≤ length room.old) }
-    ensures { (f : List ℕ) (b : Stream) → BlockOf stream block.old b → Replied stream (on_clear (request_to stream ticket f b) b (queue_type_of q)) block.new room.old room.new result }
+    ensures { (f : List ℕ) (b : Stream) → BlockOf asked.stream block.old b → Replied asked.stream (on_clear (told asked f b) b (queue_type_of q)) block.new room.old room.new result }
 {
-    let written = clear_answers(block, q, stream, ticket, room);
+    let written = clear_answers(block, q, asked, room);
     clear_words(block, q);
     written
 }
 
 // Writes the answers of a clear: the queue's Queued buffers, the drain that it ends, itself.
-fn clear_answers(
-    block: &[u32],
-    queue: QueueType,
-    stream: u32,
-    ticket: u32,
-    room: &mut [u8],
-) -> usize
+fn clear_answers(block: &[u32], queue: QueueType, asked: Asked, room: &mut [u8]) -> usize
     requires { (length block.now ≡ 512) × (1056 ≤ length room.old) }
-    ensures { (n : ℕ) (b : Stream) → BlockOf n block.now b → Wrote room.old room.new 0 result (bytes_of (clear_answers stream ticket (queue_type_of queue) b)) }
+    ensures { (n : ℕ) (b : Stream) → BlockOf n block.now b → Wrote room.old room.new 0 result (bytes_of (clear_answers asked.stream asked.ticket (queue_type_of queue) b)) }
 {
-    let stopped = stop_queue(block, queue, 0, stream, room);
-    let ends = protocol::is_input(queue);
-    let ended = ended_answer(block, ends, stopped, stream, room);
-    answer::put_plain(room, ended, ticket, OK, stream)
+    let stopped = stop_queue(block, queue, 0, asked.stream, room);
+    let ends = queue.is_input();
+    let ended = ended_answer(block, ends, stopped, asked.stream, room);
+    answer::put_plain(room, ended, asked.ticket, AnswerType::Success, asked.stream)
 }
 
 // Changes a block as a clear of the queue does.
@@ -48,31 +43,31 @@ fn clear_words(block: &mut [u32], queue: QueueType)
     requires { length block.old ≡ 512 }
     ensures { (n : ℕ) (b : Stream) → BlockOf n block.old b → block.new ≡ place_words (occupied n (clear_leaves (queue_type_of queue) b)) }
 {
-    let ends = protocol::is_input(queue);
+    let ends = queue.is_input();
     end_drain(block, ends);
     let at = table::queue_start(queue);
     queue::stop_all(&mut block[at..at + QUEUE_WORDS]);
 }
 
 // 0x0102 destroy: all that waits is answered, then the command, and the block becomes vacant.
-pub fn destroy(block: &mut [u32], stream: u32, ticket: u32, room: &mut [u8]) -> usize
+pub fn destroy(block: &mut [u32], asked: Asked, room: &mut [u8]) -> usize
     requires { (length block.old ≡ 512) × (1056 ≤ length room.old) }
-    ensures { (f : List ℕ) (b : Stream) → BlockOf stream block.old b → Replied stream (on_destroy (request_to stream ticket f b) b) block.new room.old room.new result }
+    ensures { (f : List ℕ) (b : Stream) → BlockOf asked.stream block.old b → Replied asked.stream (on_destroy (told asked f b) b) block.new room.old room.new result }
 {
-    let written = destroy_answers(block, stream, ticket, room);
+    let written = destroy_answers(block, asked, room);
     table::free_stream(block);
     written
 }
 
 // Writes the answers of a destroy: Queued inputs, Queued outputs, a pending drain, itself.
-fn destroy_answers(block: &[u32], stream: u32, ticket: u32, room: &mut [u8]) -> usize
+fn destroy_answers(block: &[u32], asked: Asked, room: &mut [u8]) -> usize
     requires { (length block.now ≡ 512) × (1056 ≤ length room.old) }
-    ensures { (n : ℕ) (b : Stream) → BlockOf n block.now b → Wrote room.old room.new 0 result (bytes_of (destroy_answers stream ticket b)) }
+    ensures { (n : ℕ) (b : Stream) → BlockOf n block.now b → Wrote room.old room.new 0 result (bytes_of (destroy_answers asked.stream asked.ticket b)) }
 {
-    let inputs = stop_queue(block, QueueType::Input, 0, stream, room);
-    let outputs = stop_queue(block, QueueType::Output, inputs, stream, room);
-    let drain = ended_answer(block, true, outputs, stream, room);
-    answer::put_plain(room, drain, ticket, OK, stream)
+    let inputs = stop_queue(block, QueueType::Input, 0, asked.stream, room);
+    let outputs = stop_queue(block, QueueType::Output, inputs, asked.stream, room);
+    let drain = ended_answer(block, true, outputs, asked.stream, room);
+    answer::put_plain(room, drain, asked.ticket, AnswerType::Success, asked.stream)
 }
 
 // Answers the Queued buffers of one of a block's queues as stopped.
@@ -93,15 +88,12 @@ fn stop_answers(q: &[u32], at: usize, stream: u32, room: &mut [u8]) -> usize
 {
     let mut next = at;
     let mut least: u64 = 0;
-    let mut turn = 0;
-    while turn < SLOTS {
-        let found = queue::next_queued(q, least);
-        let Found::At(k) = found else {
+    for _turn in 0..SLOTS {
+        let Some(k) = queue::next_queued(q, least) else {
             return next;
         };
         next = stop_answer(q, k, next, stream, room);
         least = queue::slot_number(q, k) as u64 + 1;
-        turn += 1;
     }
     next
 }

@@ -14,7 +14,7 @@ ghost use Rattle.log_verdict.specs.Checking.{log_verdict};
 ghost use Rattle.checker.specs.Meant.{numbered_by};
 
 use checker::NumberedVerdict;
-use protocol::Outcome;
+use protocol::{FinishReport, Outcome};
 use table::PendingFigure;
 
 // Makes a table fresh: the used words are those of no stream.
@@ -22,7 +22,10 @@ use table::PendingFigure;
 pub extern "C" fn virtio_video_fresh(table: &mut [u32]) -> u32
     ensures { freshened result table.new ≡ freshen layout table.old }
 {
-    table::fresh(table)
+    match table::fresh(table) {
+        Ok(()) => 0,
+        Err(refusal) => refusal as u32,
+    }
 }
 
 // A command of the guest, under a ticket: its answers, and those to what it stops, are written to the room.
@@ -35,7 +38,7 @@ pub extern "C" fn virtio_video_command(
 ) -> Outcome
     ensures { as_effect result table.new answers.new ≡ effect layout table.old (command ticket frame.now) answers.old }
 {
-    guard::command(table, ticket, frame, answers)
+    guard::command(table, ticket, frame, answers).into()
 }
 
 // The back end reports that it has finished a buffer: its answer is written to the room.
@@ -51,7 +54,14 @@ pub extern "C" fn virtio_video_finish(
 ) -> Outcome
     ensures { as_effect result table.new answers.new ≡ effect layout table.old (finish stream queue resource flags timestamp) answers.old }
 {
-    guard::finish(table, stream, queue, resource, flags, timestamp, answers)
+    let report = FinishReport {
+        stream,
+        queue,
+        resource,
+        flags,
+        timestamp,
+    };
+    guard::finish(table, report, answers).into()
 }
 
 // The back end reports that it has drained a stream: the pending answer is written to the room.
@@ -63,7 +73,7 @@ pub extern "C" fn virtio_video_drained(
 ) -> Outcome
     ensures { as_effect result table.new answers.new ≡ effect layout table.old (drained stream) answers.old }
 {
-    guard::drained(table, stream, answers)
+    guard::drained(table, stream, answers).into()
 }
 
 // How many answers are pending in all, and how many words of the table were read for it.

@@ -1,7 +1,7 @@
 -- What a command gives, by what the type and the length of its frame say.
 use mathlib.Core.Path.{◌≡◌, ap, ◌∙◌}
 use mathlib.Core.Bool.{true, false}
-use mathlib.Core.Option.{Option, none, some}
+use Rattle.std.specs.Prelude.{Option, None, Some}
 use mathlib.Core.List.{List, [], ◌∷◌}
 use Prim.Native.Nat.{ℕ}
 use Rattle.laws.specs.InOrder.{by_tests}
@@ -33,10 +33,10 @@ module _ (f : List ℕ) (around : Surroundings) (n t : ℕ) where
   fit k self h = right_frame around (asks self) k h
 
   -- a command to a live stream, and to one that is not
-  pub to_live_lem : (k : LiveCommand) (b : Stream) → verdict_for f ≡ right (live k) → serve around n (some b) (command t f) ≡ on_live k (request_to n t f b) b
-  to_live_lem k b h = fit (live k) (some b) h
+  pub to_live_lem : (k : LiveCommand) (b : Stream) → verdict_for f ≡ right (live k) → serve around n (Some b) (command t f) ≡ on_live k (request_to n t f b) b
+  to_live_lem k b h = fit (live k) (Some b) h
 
-  pub not_live : (k : LiveCommand) (self : Option Stream) → verdict_for f ≡ right (live k) → self ≡ none → serve around n self (command t f) ≡ fail (asks self) invalid_stream
+  pub not_live : (k : LiveCommand) (self : Option Stream) → verdict_for f ≡ right (live k) → self ≡ None → serve around n self (command t f) ≡ fail (asks self) invalid_stream
   not_live k self h new = fit (live k) self h ∙ ap (on_stream around (asks self) (live k)) new
 
   -- a creation for a number that may not be taken
@@ -56,7 +56,7 @@ module _ (f : List ℕ) (around : Surroundings) (n t : ℕ) where
         pub create_full : around.full ≡ true → serve around n self (command t f) ≡ fail (asks self) out_of_memory
         create_full full = creation ∙ creation_good_lem around (asks self) good ∙ tests_hit (fail (asks self)) around.full out_of_memory _ full
 
-        pub create_done : around.full ≡ false → serve around n self (command t f) ≡ reply (answer_to t n success ∷ []) (some (new_stream (coded_format f)))
+        pub create_done : around.full ≡ false → serve around n self (command t f) ≡ reply (answer_to t n success ∷ []) (Some (new_stream (coded_format f)))
         unfolding by_tests
         create_done room =
-            creation ∙ creation_good_lem around (asks self) good ∙ tests_miss (fail (asks self)) around.full out_of_memory (succeed (asks self) (some (new_stream (coded_format f)))) room
+            creation ∙ creation_good_lem around (asks self) good ∙ tests_miss (fail (asks self)) around.full out_of_memory (succeed (asks self) (Some (new_stream (coded_format f)))) room

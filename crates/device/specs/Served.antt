@@ -1,13 +1,16 @@
 -- What a step does to the words of a device and to the answer room, behind the host's first tests.
-use Rattle.std.specs.Prelude.{ℕ, ◌^◌, ◌<◌, ◌≡◌, true, List, length, set}
+use Rattle.std.specs.Prelude.{ℕ, ◌^◌, ◌<◌, ◌≡◌, true, List, length, set, Result, Ok, Err}
 use Rattle.laws.specs.Lists.{all_of}
 use Rattle.laws.specs.Stores.{Wrote}
 use Rattle.model.specs.Numbers.{stream_places}
 use Rattle.model.specs.Device.{Place, Device, record_of, put_back}
 use Rattle.model.specs.Answers.{bytes_of}
-use Rattle.model.specs.Replies.{Reply}
-use Rattle.model.specs.Steps.{Act, around, serve}
+use Rattle.model.specs.Replies.{Reply, fail}
+use Rattle.model.specs.Steps.{Act, command, around, serve}
 use Rattle.model.specs.WellFormed.{well_formed}
+use Rattle.protocol.specs.declared.codes.ErrorCode.{ErrorCode}
+use Rattle.protocol.specs.Codes.{error_meant}
+use Rattle.stream.specs.declared.Asked.{Asked}
 use Rattle.table.specs.Figures.{place_mark}
 use Rattle.table.specs.Blocks.{encode, unsettled}
 use Rattle.table.specs.Search.{has_all_slots}
@@ -39,3 +42,14 @@ pub record Served (d : Device) (n : ℕ) (a : Act) (left room room' : List ℕ) 
   pub refusal_is : refusal ≡ (reply_of d n a).refusal
   pub words : left ≡ encode (put_back n (reply_of d n a).next d)
   pub bytes : Wrote room room' 0 written (bytes_of (reply_of d n a).answers)
+
+-- the command's reply is an error, which is not written yet, and words and room are as they were
+pub record Erred (d : Device) (a : Asked) (f words words' room room' : List ℕ) (e : ErrorCode) : Type 0 where
+  pub error : reply_of d a.stream (command a.ticket f) ≡ fail (record { stream = a.stream; ticket = a.ticket; frame = f; self = record_of a.stream d.places }) (error_meant e)
+  pub words_stay : words' ≡ words
+  pub room_stays : room' ≡ room
+
+-- a command was served, or is such an error
+abbrev pub Attempted : Device → Asked → (frame words words' room room' : List ℕ) → Result ℕ ErrorCode → Type 0
+Attempted d a f words words' room room' (Ok written) = Served d a.stream (command a.ticket f) words' room room' 0 written
+Attempted d a f words words' room room' (Err e) = Erred d a f words words' room room' e

@@ -6,119 +6,99 @@ ghost use Rattle.model.specs.Frames.{create, live, queue_named, stream_id, queue
 ghost use Rattle.model.specs.Commands.{on_queue_of, on_named, on_live};
 ghost use Rattle.model.specs.Steps.{command};
 ghost use Rattle.protocol.specs.QueueTypes.{queue_type_of};
-ghost use Rattle.frame.specs.Meant.{queue_command_of, live_command_of, meant, right, queue_length, least_length, verdict_for};
-ghost use Rattle.stream.specs.Replied.{BlockOf, LiveBlock, request_to, Replied};
-ghost use Rattle.device.specs.Served.{Encodes, DeviceWords, Served};
+ghost use Rattle.frame.specs.Meant.{queue_command_of, live_command_of, right, queue_length, least_length, verdict_for};
+ghost use Rattle.stream.specs.Replied.{BlockOf, LiveBlock, told, Tried};
+ghost use Rattle.device.specs.Served.{Encodes, DeviceWords, Served, Attempted};
 
 use crate::places::{add_stream, live_place, settle, unusable, vacant_place};
-use frame::{Checked, Command, LiveCommand, QueueCommand};
-use protocol::{
-    INVALID_OPERATION, INVALID_PARAMETER, INVALID_STREAM, Named, OK, OUT_OF_MEMORY, QueueType,
-    UNSUPPORTED_CONTROL,
-};
-use queue::Found;
+use frame::{Command, LiveCommand, QueueCommand};
+use protocol::{AnswerType, ErrorCode, QueueType};
+use stream::Asked;
 use table::PLACE_WORDS;
 
-// A command with a whole header: the type, the length, and then the command itself.
+// A command with a whole header: it is carried out, or answered by its error.
 pub fn command(t: &mut [u32], ticket: u32, frame: &[u8], room: &mut [u8]) -> usize
     requires { (length t.old ≡ table_words) × DeviceWords t.old × (8 ≤ length frame.now) × (1056 ≤ length room.old) }
     ensures { (d : Device) → Encodes t.old d → Served d (stream_id frame.now) (command ticket frame.now) t.new room.old room.new 0 result }
 {
-    let kind = frame::kind(frame);
     let stream = frame::stream(frame);
-    let checked = frame::check(kind, frame.len());
-    match checked {
-        Checked::Unknown => answer::put_plain(room, 0, ticket, INVALID_OPERATION, stream),
-        Checked::Wrong => answer::put_plain(room, 0, ticket, INVALID_PARAMETER, stream),
-        Checked::Right(asked) => carry_out(t, asked, stream, ticket, frame, room),
+    let asked = Asked { stream, ticket };
+    match carry_out(t, asked, frame, room) {
+        Ok(written) => written,
+        Err(error) => answer::put_plain(room, 0, ticket, AnswerType::Error(error), stream),
     }
 }
 
-// A command behind the tests of its type and length.
-fn carry_out(
-    t: &mut [u32],
-    asked: Command,
-    stream: u32,
-    ticket: u32,
-    frame: &[u8],
-    room: &mut [u8],
-) -> usize
-    requires { (length t.old ≡ table_words) × DeviceWords t.old × (verdict_for frame.now ≡ right (meant asked)) × (1056 ≤ length room.old) }
-    ensures { (d : Device) → Encodes t.old d → Served d stream (command ticket frame.now) t.new room.old room.new 0 result }
+// A command by the type and the length of its frame.
+fn carry_out(t: &mut [u32], asked: Asked, frame: &[u8], room: &mut [u8]) -> Result<usize, ErrorCode>
+    requires { (length t.old ≡ table_words) × DeviceWords t.old × (8 ≤ length frame.now) × (1056 ≤ length room.old) }
+    ensures { (d : Device) → Encodes t.old d → Attempted d asked frame.now t.old t.new room.old room.new result }
 {
-    let Command::Live(live) = asked else {
-        return create(t, stream, ticket, frame, room);
-    };
-    to_live(t, live, stream, ticket, frame, room)
+    let kind = frame::kind(frame);
+    let named = frame::check(kind, frame.len())?;
+    match named {
+        Command::Create => create(t, asked, frame, room),
+        Command::Live(live) => to_live(t, live, asked, frame, room),
+    }
 }
 
 // 0x0101: a new stream in the lowest vacant place, under a number never used before.
-fn create(t: &mut [u32], stream: u32, ticket: u32, frame: &[u8], room: &mut [u8]) -> usize
+fn create(t: &mut [u32], asked: Asked, frame: &[u8], room: &mut [u8]) -> Result<usize, ErrorCode>
     requires { (length t.old ≡ table_words) × (verdict_for frame.now ≡ right create) × (88 ≤ length frame.now) × (1056 ≤ length room.old) }
-    ensures { (d : Device) → Encodes t.old d → Served d stream (command ticket frame.now) t.new room.old room.new 0 result }
+    ensures { (d : Device) → Encodes t.old d → Attempted d asked frame.now t.old t.new room.old room.new result }
 {
-    if unusable(t, stream) {
-        return answer::put_plain(room, 0, ticket, INVALID_STREAM, stream);
+    if unusable(t, asked.stream) {
+        return Err(ErrorCode::InvalidStream);
     }
     if !frame::creation_good(frame) {
-        return answer::put_plain(room, 0, ticket, INVALID_PARAMETER, stream);
+        return Err(ErrorCode::InvalidParameter);
     }
-    let place = vacant_place(t);
-    let Found::At(k) = place else {
-        return answer::put_plain(room, 0, ticket, OUT_OF_MEMORY, stream);
+    let Some(k) = vacant_place(t) else {
+        return Err(ErrorCode::OutOfMemory);
     };
     let format = frame::coded_format(frame);
-    add_stream(t, k, stream, format);
+    add_stream(t, k, asked.stream, format);
     settle(t, k);
-    answer::put_plain(room, 0, ticket, OK, stream)
+    let kind = AnswerType::Success;
+    Ok(answer::put_plain(room, 0, asked.ticket, kind, asked.stream))
 }
 
 // All other commands: to a live stream, in its block.
 fn to_live(
     t: &mut [u32],
-    asked: LiveCommand,
-    stream: u32,
-    ticket: u32,
+    command: LiveCommand,
+    asked: Asked,
     frame: &[u8],
     room: &mut [u8],
-) -> usize
-    requires { (length t.old ≡ table_words) × DeviceWords t.old × (verdict_for frame.now ≡ right (live (live_command_of asked))) × (1056 ≤ length room.old) }
-    ensures { (d : Device) → Encodes t.old d → Served d stream (command ticket frame.now) t.new room.old room.new 0 result }
+) -> Result<usize, ErrorCode>
+    requires { (length t.old ≡ table_words) × DeviceWords t.old × (verdict_for frame.now ≡ right (live (live_command_of command))) × (1056 ≤ length room.old) }
+    ensures { (d : Device) → Encodes t.old d → Attempted d asked frame.now t.old t.new room.old room.new result }
 {
-    let found = live_place(t, stream);
-    let Found::At(k) = found else {
-        return answer::put_plain(room, 0, ticket, INVALID_STREAM, stream);
+    let Some(k) = live_place(t, asked.stream) else {
+        return Err(ErrorCode::InvalidStream);
     };
     let at = PLACE_WORDS * k;
-    let written = in_block(
-        &mut t[at..at + PLACE_WORDS],
-        asked,
-        stream,
-        ticket,
-        frame,
-        room,
-    );
+    let written = in_block(&mut t[at..at + PLACE_WORDS], command, asked, frame, room)?;
     settle(t, k);
-    written
+    Ok(written)
 }
 
 // A command to the live stream of a block.
 fn in_block(
     block: &mut [u32],
     command: LiveCommand,
-    stream: u32,
-    ticket: u32,
+    asked: Asked,
     frame: &[u8],
     room: &mut [u8],
-) -> usize
-    requires { (length block.old ≡ 512) × LiveBlock stream block.old × (least_length (live (live_command_of command)) ≤ length frame.now) × (1056 ≤ length room.old) }
-    ensures { (b : Stream) → BlockOf stream block.old b → Replied stream (on_live (live_command_of command) (request_to stream ticket frame.now b) b) block.new room.old room.new result }
+) -> Result<usize, ErrorCode>
+    requires { (length block.old ≡ 512) × LiveBlock asked.stream block.old × (least_length (live (live_command_of command)) ≤ length frame.now) × (1056 ≤ length room.old) }
+    ensures { (b : Stream) → BlockOf asked.stream block.old b → Tried (told asked frame.now b) (on_live (live_command_of command) (told asked frame.now b) b) block.old block.new room.old room.new result }
 {
     match command {
-        LiveCommand::Destroy => completion::destroy(block, stream, ticket, room),
-        LiveCommand::Drain => stream::drain(block, stream, ticket, room),
-        LiveCommand::Control => answer::put_plain(room, 0, ticket, UNSUPPORTED_CONTROL, stream),
-        LiveCommand::ToQueue(k) => to_queue(block, k, stream, ticket, frame, room),
+        LiveCommand::Destroy => Ok(completion::destroy(block, asked, room)),
+        LiveCommand::Drain => stream::drain(block, asked),
+        LiveCommand::Control => Err(ErrorCode::UnsupportedControl),
+        LiveCommand::ToQueue(k) => to_queue(block, k, asked, frame, room),
     }
 }
 
@@ -126,19 +106,17 @@ fn in_block(
 fn to_queue(
     block: &mut [u32],
     command: QueueCommand,
-    stream: u32,
-    ticket: u32,
+    asked: Asked,
     frame: &[u8],
     room: &mut [u8],
-) -> usize
-    requires { (length block.old ≡ 512) × LiveBlock stream block.old × (16 ≤ length frame.now) × (queue_length (queue_command_of command) ≤ length frame.now) × (1056 ≤ length room.old) }
-    ensures { (b : Stream) → BlockOf stream block.old b → Replied stream (on_named (queue_command_of command) (request_to stream ticket frame.now b) b (queue_named (queue_type frame.now))) block.new room.old room.new result }
+) -> Result<usize, ErrorCode>
+    requires { (length block.old ≡ 512) × LiveBlock asked.stream block.old × (16 ≤ length frame.now) × (queue_length (queue_command_of command) ≤ length frame.now) × (1056 ≤ length room.old) }
+    ensures { (b : Stream) → BlockOf asked.stream block.old b → Tried (told asked frame.now b) (on_named (queue_command_of command) (told asked frame.now b) b (queue_named (queue_type frame.now))) block.old block.new room.old room.new result }
 {
-    let named = protocol::queue_named(frame::queue_type(frame));
-    let Named::One(q) = named else {
-        return answer::put_plain(room, 0, ticket, INVALID_PARAMETER, stream);
+    let Ok(q) = QueueType::try_from(frame::queue_type(frame)) else {
+        return Err(ErrorCode::InvalidParameter);
     };
-    in_queue(block, command, q, stream, ticket, frame, room)
+    in_queue(block, command, q, asked, frame, room)
 }
 
 // A command to a queue.
@@ -146,26 +124,19 @@ fn in_queue(
     block: &mut [u32],
     command: QueueCommand,
     q: QueueType,
-    stream: u32,
-    ticket: u32,
+    asked: Asked,
     frame: &[u8],
     room: &mut [u8],
-) -> usize
-    requires { (length block.old ≡ 512) × LiveBlock stream block.old × (queue_length (queue_command_of command) ≤ length frame.now) × (1056 ≤ length room.old) }
-    ensures { (b : Stream) → BlockOf stream block.old b → Replied stream (on_queue_of (queue_command_of command) (request_to stream ticket frame.now b) b (queue_type_of q)) block.new room.old room.new result }
+) -> Result<usize, ErrorCode>
+    requires { (length block.old ≡ 512) × LiveBlock asked.stream block.old × (queue_length (queue_command_of command) ≤ length frame.now) × (1056 ≤ length room.old) }
+    ensures { (b : Stream) → BlockOf asked.stream block.old b → Tried (told asked frame.now b) (on_queue_of (queue_command_of command) (told asked frame.now b) b (queue_type_of q)) block.old block.new room.old room.new result }
 {
     match command {
-        QueueCommand::CreateResource => {
-            stream::create_resource(block, stream, ticket, frame, q, room)
-        }
-        QueueCommand::QueueResource => {
-            stream::queue_resource(block, stream, ticket, frame, q, room)
-        }
-        QueueCommand::DestroyAll => stream::destroy_all(block, stream, ticket, q, room),
-        QueueCommand::Clear => completion::clear(block, stream, ticket, q, room),
-        QueueCommand::GetParameters => stream::get_parameters(block, stream, ticket, q, room),
-        QueueCommand::SetParameters => {
-            stream::set_parameters(block, stream, ticket, frame, q, room)
-        }
+        QueueCommand::CreateResource => stream::create_resource(block, asked, frame, q, room),
+        QueueCommand::QueueResource => stream::queue_resource(block, asked, frame, q),
+        QueueCommand::DestroyAll => stream::destroy_all(block, asked, q, room),
+        QueueCommand::Clear => Ok(completion::clear(block, asked, q, room)),
+        QueueCommand::GetParameters => Ok(stream::get_parameters(block, asked, q, room)),
+        QueueCommand::SetParameters => stream::set_parameters(block, asked, frame, q, room),
     }
 }

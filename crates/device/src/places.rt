@@ -1,32 +1,30 @@
 // The places and the spent numbers in the used words of a table: searches, a new stream, and the figures after a change.
-ghost use Rattle.std.specs.Prelude.{◌≡◌, false, ◌<◌, length, set};
-ghost use Rattle.std.proofs.Math.Option.{none, some};
+ghost use Rattle.std.specs.Prelude.{◌≡◌, IfSome, false, ◌<◌, length, set};
+ghost use Rattle.std.specs.Prelude.{None, Some};
 ghost use Rattle.model.specs.Numbers.{table_words, stream_places, stream_numbers};
 ghost use Rattle.model.specs.Device.{Place, occupied, Device, new_stream, record_of, spend};
 ghost use Rattle.model.specs.Steps.{around};
-ghost use Rattle.queue.specs.Found.{found_at, FoundBelow};
 ghost use Rattle.table.specs.Blocks.{encode, with_places, with_spent};
 ghost use Rattle.table.specs.Search.{find_stream, find_vacant};
 ghost use Rattle.device.specs.Served.{Encodes, Unsettled};
 
 use protocol::STREAM_NUMBERS;
-use queue::Found;
 use table::{BLOCKS_WORDS, FIGURES_END, PLACE_WORDS, SPENT_END, TOTAL_AT};
 
 // The place of the live stream with that number.
-pub fn live_place(t: &[u32], number: u32) -> Found
+pub fn live_place(t: &[u32], number: u32) -> Option<usize>
     requires { length t.now ≡ table_words }
-    ensures within { FoundBelow result 8 }
-    ensures found { (d : Device) → Encodes t.now d → found_at result ≡ find_stream number d.places }
+    ensures within { IfSome result (λ k. k < 8) }
+    ensures found { (d : Device) → Encodes t.now d → result ≡ find_stream number d.places }
 {
     table::find_stream(&t[0..BLOCKS_WORDS], number)
 }
 
 // The lowest vacant place.
-pub fn vacant_place(t: &[u32]) -> Found
+pub fn vacant_place(t: &[u32]) -> Option<usize>
     requires { length t.now ≡ table_words }
-    ensures within { FoundBelow result 8 }
-    ensures found { (d : Device) → Encodes t.now d → found_at result ≡ find_vacant d.places }
+    ensures within { IfSome result (λ k. k < 8) }
+    ensures found { (d : Device) → Encodes t.now d → result ≡ find_vacant d.places }
 {
     table::find_vacant(&t[0..BLOCKS_WORDS])
 }
@@ -48,7 +46,7 @@ pub fn unusable(t: &[u32], number: u32) -> bool
 pub fn add_stream(t: &mut [u32], k: usize, number: u32, format: u32)
     requires { (length t.old ≡ table_words) × (k < stream_places) × (number < stream_numbers) }
     ensures size { length t.new ≡ table_words }
-    ensures added { (d : Device) → Encodes t.old d → record_of number d.places ≡ none → find_vacant d.places ≡ some k → Unsettled t.new (with_spent (spend number d.spent) d) k (occupied number (new_stream format)) }
+    ensures added { (d : Device) → Encodes t.old d → record_of number d.places ≡ None → find_vacant d.places ≡ Some k → Unsettled t.new (with_spent (spend number d.spent) d) k (occupied number (new_stream format)) }
 {
     let at = PLACE_WORDS * k;
     table::spend(&mut t[BLOCKS_WORDS..SPENT_END], number);

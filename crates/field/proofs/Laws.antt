@@ -1,19 +1,21 @@
--- Laws of little-endian fields, each over the width: of reading by `field_split`, of storing by `sets_split`, of both by `field_little_endian`.
+-- Laws of little-endian fields, each over the width: of reading by `field_padded`, of storing by `sets_first`, of both by `field_little_endian`.
 use mathlib.Core.Path.{◌≡◌, refl, sym, ap, ◌∙◌}
 use mathlib.Core.List.{List, [], ◌∷◌, ◌++◌}
 use mathlib.Core.Bool.{true}
-use Prim.Native.Nat.{ℕ, zero, suc, ◌+◌, ◌*◌, ◌/◌, ◌%◌, ◌^◌, ◌≤◌, ◌<◌}
+use Prim.Native.Nat.{ℕ, zero, suc, ◌+◌, ◌-◌, ◌*◌, ◌/◌, ◌%◌, ◌^◌, ◌≤◌, ◌<◌}
 use native.Mathlib.Nat.{add-suc, suc-add, add-zero, zero-add, mul_assoc, pow-suc, one-le-pow, mod-one, mod-eq_of_lt, mul_comm, div-one, div-div-eq-div-mul}
 use native.Mathlib.Omega.{arith}
-use lib.ListN.{length, get_or, take, drop}
+use lib.ListN.{length, get_or, take, drop, replicate, length-drop}
 use lib.Dec.{ltb, lit<}
 use borrow.Author.Tests.{ltb-true, lt-ltb}
-use lib.Arith.{mod-mul, digits_mod, digits_div}
-use lib.Seq.{get_or-drop, get_or-take, get_or-append-add, sets}
+use lib.Arith.{mod-mul}
+use lib.Seq.{get_or-drop, get_or-take, get_or-append-add, sets, take_at, length-take-le}
+use Rattle.std.specs.Int.{w64, from_le_bytes, to_le_bytes}
 use Rattle.laws.specs.Lists.{all_of}
+use Rattle.laws.specs.Parts.{with_part}
 use Rattle.laws.proofs.Tests.{both}
 use Rattle.laws.proofs.Lists.{all_get_d}
-use Rattle.laws.proofs.Stores.{sets_append}
+use Rattle.laws.proofs.Stores.{sets_with_part}
 use Rattle.field.specs.Field.{field, little_endian}
 
 -- a field of a + b bytes is the field of its first a and, above it, that of the b after them
@@ -22,11 +24,6 @@ unfolding field
 field_split zero b s at = rw (zero-add b, add-zero at) (omega arith)
 field_split (suc a) b s at =
     rw (suc-add a b) (rw (field_split a b s (suc at)) (rw (suc-add at a, add-suc at a, pow-suc, mul_comm (256 ^ a) 256) (rw (mul_assoc 256 (256 ^ a)) (omega arith))))
-
--- a field of one byte is the byte
-pub field_one : (s : List ℕ) (at : ℕ) → field 1 s at ≡ get_or s at 0
-unfolding field
-field_one s at = omega arith
 
 -- a field of a part is the field of the whole, further on
 pub field_part : (w : ℕ) (s : List ℕ) (k n at : ℕ) → at + w ≤ n → field w (take n (drop k s)) at ≡ field w s (k + at)
@@ -43,12 +40,20 @@ unfolding field
 field_after zero p s at = refl
 field_after (suc w) p s at = rw (get_or-append-add p s at 0, ← add-suc (length p) at, field_after w p s (suc at))
 
--- a field of bytes is below 256 ^ w
-pub field_below : (w : ℕ) (s : List ℕ) (at : ℕ) → all_of (λ b. ltb b 256) s ≡ true → field w s at < 256 ^ w
+-- a field of zeros is 0
+field_zeros : (w : ℕ) (s : List ℕ) (at : ℕ) → ((i : ℕ) → get_or s i 0 ≡ 0) → field w s at ≡ 0
 unfolding field
-field_below zero s at h = lit< tt
-field_below (suc w) s at h =
-    omega (arith, pow-suc 256 w, field_below w s (suc at) h, ltb-true (get_or s at 0) 256 (all_get_d (λ b. ltb b 256) s at 0 refl h))
+field_zeros zero s at h = refl
+field_zeros (suc w) s at h = omega (arith, field_zeros w s (suc at) h, h at)
+
+-- a field of bytes is below 256 ^ w
+pub field_fits : (w : ℕ) (s : List ℕ) (at : ℕ) → ((i : ℕ) → get_or s i 0 < 256) → field w s at < 256 ^ w
+unfolding field
+field_fits zero s at h = lit< tt
+field_fits (suc w) s at h = omega (arith, pow-suc 256 w, field_fits w s (suc at) h, h at)
+
+pub field_below : (w : ℕ) (s : List ℕ) (at : ℕ) → all_of (λ b. ltb b 256) s ≡ true → field w s at < 256 ^ w
+field_below w s at h = field_fits w s at (λ i. ltb-true (get_or s i 0) 256 (all_get_d (λ b. ltb b 256) s i 0 refl h))
 
 -- the bytes of a number of a + b bytes are those of its a lowest and of the others
 pub little_endian_split : (a b n : ℕ) → little_endian (a + b) n ≡ little_endian a n ++ little_endian b (n / 256 ^ a)
@@ -56,15 +61,6 @@ unfolding little_endian
 little_endian_split zero b n = rw (zero-add, div-one)
 little_endian_split (suc a) b n =
     rw (suc-add a b) (rw (little_endian_split a b (n / 256)) (rw (div-div-eq-div-mul, pow-suc, mul_comm (256 ^ a) 256)))
-
--- the w lowest bytes of n are those of its remainder by 256 ^ w
-pub little_endian_mod : (w n : ℕ) → little_endian w (n % 256 ^ w) ≡ little_endian w n
-unfolding little_endian
-little_endian_mod zero n = refl
-little_endian_mod (suc w) n =
-    let low : n % 256 < 256 = omega arith in
-    rw (pow-suc, mod-mul n {m = 256 ^ w} {c = 256} (one-le-pow w 256 (lit< tt)) (lit< tt))
-    (rw (digits_mod (n / 256 % 256 ^ w) low, digits_div (n / 256 % 256 ^ w) low, little_endian_mod w (n / 256)))
 
 -- there are w of them, each below 256
 pub length_little_endian : (w n : ℕ) → length (little_endian w n) ≡ w
@@ -88,8 +84,46 @@ field_little_endian (suc w) n rest =
 pub field_back : (w n : ℕ) (rest : List ℕ) → n < 256 ^ w → field w (little_endian w n ++ rest) 0 ≡ n
 field_back w n rest h = field_little_endian w n rest ∙ mod-eq_of_lt h
 
--- a number of a + b bytes is stored by storing its a lowest bytes and then the others
-pub sets_split : (a b : ℕ) (d : List ℕ) (at n : ℕ) →
-    sets (sets d at (little_endian a (n % 256 ^ a))) (at + a) (little_endian b (n / 256 ^ a)) ≡ sets d at (little_endian (a + b) n)
-sets_split a b d at n =
-    rw (little_endian_mod a n, little_endian_split a b n, ← (sets_append d at (little_endian a n) (little_endian b (n / 256 ^ a))), length_little_endian a n)
+-- a field of w bytes and n zeros is that of the w bytes
+field_and_zeros : {k : ℕ} (w n : ℕ) (p q : List ℕ) → k ≡ w + n → length p ≡ w → ((i : ℕ) → get_or q i 0 ≡ 0) → field k (p ++ q) 0 ≡ field w p 0
+field_and_zeros w n p q e h z =
+    let front : field w (p ++ q) 0 ≡ field w p 0 = sym (field_part w (p ++ q) 0 w 0 (omega arith)) ∙ ap (λ (l : List ℕ). field w l 0) (take_at p q w h) in
+    let back : field n (p ++ q) (0 + w) ≡ 0 = rw (← h, zero-add) (rw add-zero at (field_after n p q 0) ∙ field_zeros n q 0 z) in
+    rw e (field_split w n (p ++ q) 0 ∙ rw (back, front) (omega arith))
+
+zero_bytes : (n i : ℕ) → ◌≡◌ {A = ℕ} (get_or (replicate n 0) i 0) 0
+zero_bytes zero i = refl
+zero_bytes (suc n) zero = refl
+zero_bytes (suc n) (suc i) = zero_bytes n i
+
+-- the library's number of 8 bytes is their field
+library_field : (s : List ℕ) → from_le_bytes w64 s ≡ field 8 s 0
+unfolding field
+library_field s = omega arith
+
+-- of the 8 bytes the first w are those of s from `at`, and the others 0: it is the field there
+pub field_padded : (w : ℕ) (p s : List ℕ) (at : ℕ) → w ≤ 8 → at + w ≤ length s → p ≡ take w (drop at s) → from_le_bytes w64 (p ++ drop w (replicate 8 0)) ≡ field w s at
+field_padded w p s at h k e =
+    let zeros : List ℕ = drop w (replicate 8 0) in
+    let size : length p ≡ w = rw e (length-take-le w (drop at s) (rw length-drop (omega arith))) in
+    library_field (p ++ zeros)
+    ∙ field_and_zeros w (8 - w) p zeros (omega arith) size (λ i. get_or-drop w (replicate 8 0) i 0 ∙ zero_bytes 8 (w + i))
+    ∙ rw e (field_part w s at w 0 (omega arith) ∙ ap (field w s) (add-zero at))
+
+-- the library's 8 bytes of n, and the first w of them
+library_bytes : (n : ℕ) → to_le_bytes w64 n ≡ little_endian 8 n
+unfolding little_endian
+library_bytes n = simp div-div-eq-div-mul
+
+first_bytes : (w n : ℕ) → w ≤ 8 → take w (to_le_bytes w64 n) ≡ little_endian w n
+first_bytes w n h =
+    let eight : 8 ≡ w + (8 - w) = omega arith in
+    ap (take w) (library_bytes n ∙ ap (λ (k : ℕ). little_endian k n) eight ∙ little_endian_split w (8 - w) n)
+    ∙ take_at (little_endian w n) (little_endian (8 - w) (n / 256 ^ w)) w (length_little_endian w n)
+
+-- put in the place of the w bytes from `at`, they are stored there
+pub sets_first : (w : ℕ) (p d : List ℕ) (at n : ℕ) → w ≤ 8 → at + w ≤ length d → p ≡ take w (to_le_bytes w64 n) → with_part at w d p ≡ sets d at (little_endian w n)
+sets_first w p d at n h k e =
+    let bytes : p ≡ little_endian w n = e ∙ first_bytes w n h in
+    let size : length (little_endian w n) ≡ w = length_little_endian w n in
+    rw bytes (sym (rw size at (sets_with_part d (little_endian w n) at (rw size k))))

@@ -1,32 +1,86 @@
-// Little-endian fields of 2, 4 and 8 bytes: read from a part of a frame, and written into a lent buffer.
+// Little-endian fields: a number is read from a part of a frame, and stored in a lent buffer, in as many bytes as it has.
 #![tactic(auto)]
 
-ghost use Rattle.std.specs.Prelude.{◌≡◌, ◌+◌, ◌≤◌, length};
+ghost use Rattle.std.specs.Prelude.{ℕ, ◌≡◌, ◌+◌, ◌^◌, ◌<◌, ◌≤◌, length};
+ghost use Rattle.std.proofs.Common.{lit≤};
 ghost use Rattle.std.proofs.lemmas.List.Edits.{sets};
 ghost use Rattle.field.specs.Field.{field, little_endian};
 
-// The number in the 2 bytes from `at`.
-pub fn read_u16(part: &[u8], at: usize) -> u16
-    requires { at + 2 ≤ length part.now }
-    ensures { result ≡ field 2 part.now at }
-{
-    (part[at] as u16) + 256 * (part[at + 1] as u16)
+// An unsigned number of at most 8 bytes.
+pub trait Number: Into<u64> {
+    const BYTES: usize;
+
+    ghost BYTES: { ℕ };
+
+    ghost value: { Self → ℕ };
+
+    // The one whose value is `n`.
+    fn from_u64(n: u64) -> Self
+        requires { n < 256 ^ BYTES }
+        ensures { value result ≡ n };
+
+    ghost at_most_8: { BYTES ≤ 8 };
+
+    // What `into` gives is the value.
+    ghost into_value: { (x : Self) (n : ℕ) → Self.converts x n → n ≡ value x };
 }
 
-// The number in the 4 bytes from `at`.
-pub fn read_u32(part: &[u8], at: usize) -> u32
-    requires { at + 4 ≤ length part.now }
-    ensures { result ≡ field 4 part.now at }
-{
-    (read_u16(part, at) as u32) + 65536 * (read_u16(part, at + 2) as u32)
+impl Number for u16 {
+    const BYTES: usize = 2;
+
+    ghost BYTES = { 2 };
+
+    ghost value = { λ x. x };
+
+    ghost at_most_8 = { lit≤ tt };
+
+    ghost into_value = { λ x n e. e };
+
+    fn from_u64(n: u64) -> u16 {
+        n as u16
+    }
 }
 
-// The number in the 8 bytes from `at`.
-pub fn read_u64(part: &[u8], at: usize) -> u64
-    requires { at + 8 ≤ length part.now }
-    ensures { result ≡ field 8 part.now at }
+impl Number for u32 {
+    const BYTES: usize = 4;
+
+    ghost BYTES = { 4 };
+
+    ghost value = { λ x. x };
+
+    ghost at_most_8 = { lit≤ tt };
+
+    ghost into_value = { λ x n e. e };
+
+    fn from_u64(n: u64) -> u32 {
+        n as u32
+    }
+}
+
+impl Number for u64 {
+    const BYTES: usize = 8;
+
+    ghost BYTES = { 8 };
+
+    ghost value = { λ x. x };
+
+    ghost at_most_8 = { lit≤ tt };
+
+    ghost into_value = { λ x n e. e };
+
+    fn from_u64(n: u64) -> u64 {
+        n
+    }
+}
+
+// The number in its bytes from `at`.
+pub fn read<N: Number>(part: &[u8], at: usize) -> N
+    requires { at + N.BYTES ≤ length part.now }
+    ensures { N.value result ≡ field N.BYTES part.now at }
 {
-    (read_u32(part, at) as u64) + 4294967296 * (read_u32(part, at + 4) as u64)
+    let mut bytes = [0; 8];
+    bytes[..N::BYTES].copy_from_slice(&part[at..at + N::BYTES]);
+    N::from_u64(u64::from_le_bytes(bytes))
 }
 
 // The number in the 4 bytes from `at` of the payload, which is the part of the frame from offset 8.
@@ -34,33 +88,14 @@ pub fn payload_u32(frame: &[u8], at: usize) -> u32
     requires { (8 + at) + 4 ≤ length frame.now }
     ensures { result ≡ field 4 frame.now (8 + at) }
 {
-    let payload = &frame[8..];
-    read_u32(payload, at)
+    read(frame, 8 + at)
 }
 
-// Stores `n` in the 2 bytes from `at`.
-fn put_u16(out: &mut [u8], at: usize, n: u16)
-    requires { at + 2 ≤ length out.old }
-    ensures { out.new ≡ sets out.old at (little_endian 2 n) }
+// Stores `n` in its bytes from `at`.
+pub fn put<N: Number>(out: &mut [u8], at: usize, n: N)
+    requires { at + N.BYTES ≤ length out.old }
+    ensures { out.new ≡ sets out.old at (little_endian N.BYTES (N.value n)) }
 {
-    out[at] = (n % 256) as u8;
-    out[at + 1] = (n / 256) as u8;
-}
-
-// Stores `n` in the 4 bytes from `at`.
-pub fn put_u32(out: &mut [u8], at: usize, n: u32)
-    requires { at + 4 ≤ length out.old }
-    ensures { out.new ≡ sets out.old at (little_endian 4 n) }
-{
-    put_u16(out, at, (n % 65536) as u16);
-    put_u16(out, at + 2, (n / 65536) as u16);
-}
-
-// Stores `n` in the 8 bytes from `at`.
-pub fn put_u64(out: &mut [u8], at: usize, n: u64)
-    requires { at + 8 ≤ length out.old }
-    ensures { out.new ≡ sets out.old at (little_endian 8 n) }
-{
-    put_u32(out, at, (n % 4294967296) as u32);
-    put_u32(out, at + 4, (n / 4294967296) as u32);
+    let all: u64 = n.into();
+    out[at..at + N::BYTES].copy_from_slice(&all.to_le_bytes()[..N::BYTES]);
 }

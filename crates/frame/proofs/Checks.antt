@@ -1,7 +1,7 @@
 -- How each check stands in the model's list of tests: those that it makes are one test, behind which the rest is left.
 use mathlib.Core.Path.{◌≡◌, refl, ap, ◌∙◌, subst}
 use mathlib.Core.Bool.{true, false, not}
-use mathlib.Core.Option.{Option, none, some}
+use Rattle.std.specs.Prelude.{Option, None, Some}
 use Prim.Native.Nat.{ℕ, ◌+◌, ◌*◌, ◌≤◌}
 use native.Mathlib.Omega.{arith}
 use lib.Dec.{ltb, eqb}
@@ -31,8 +31,8 @@ on_verdict around c (right k) = on_stream around c k c.self
 
 module _ (around : Surroundings) (c : Request) where
   by_rule : (o : Option CommandRule) → on_rule around c o ≡ on_verdict around c (verdict o (length c.frame))
-  by_rule none = refl
-  by_rule (some l) = decide (wrong_length l.length_rule (length c.frame)) (λ t. simp t) (λ t. simp t)
+  by_rule None = refl
+  by_rule (Some l) = decide (wrong_length l.length_rule (length c.frame)) (λ t. simp t) (λ t. simp t)
 
   by_verdict : (v : Verdict) → verdict_for c.frame ≡ v → on_command around c ≡ on_verdict around c v
   unfolding on_command
@@ -54,7 +54,7 @@ ruled_length : (rule : LengthRule) (n : ℕ) → wrong_length rule n ≡ false �
 ruled_length (exactly k) n h = omega (arith, eqb-true n k (not-false _ h))
 ruled_length (at_least k) n h = ltb-false n k h
 
-rule_length : (n : ℕ) (l : CommandRule) → least_of l.length_rule ≡ least_length l.command → (k : Command) → verdict (some l) n ≡ right k → least_length k ≤ n
+rule_length : (n : ℕ) (l : CommandRule) → least_of l.length_rule ≡ least_length l.command → (k : Command) → verdict (Some l) n ≡ right k → least_length k ≤ n
 rule_length n l is k e =
     decide (wrong_length l.length_rule n)
     (λ t. absurd (let z : ◌≡◌ {A = ℕ} 0 1 = let w : wrong invalid_parameter ≡ right k = simp t at e in cc in omega arith))
@@ -65,7 +65,7 @@ rule_length n l is k e =
 pub right_length : (ty n : ℕ) (k : Command) → verdict (rule_of ty) n ≡ right k → least_length k ≤ n
 right_length ty n =
     by_type (λ ty o. (k : Command) → verdict o n ≡ right k → least_length k ≤ n)
-    (each_map (λ l. least_of l.length_rule ≡ least_length l.command) (λ l. (k : Command) → verdict (some l) n ≡ right k → least_length k ≤ n) (rule_length n) commands
+    (each_map (λ l. least_of l.length_rule ≡ least_length l.command) (λ l. (k : Command) → verdict (Some l) n ≡ right k → least_length k ≤ n) (rule_length n) commands
     (refl, (refl, (refl, (refl, (refl, (refl, (refl, (refl, (refl, (refl, (refl, (refl, tt)))))))))))))
     (λ ty k e. absurd (let z : ◌≡◌ {A = ℕ} 0 1 = cc in omega arith)) ty
 

@@ -1,30 +1,20 @@
 -- Laws of the definitions, each in the form that a step of the code wants.
-use mathlib.Core.Path.{◌≡◌, refl, sym, ap, ◌∙◌}
-use mathlib.Core.Bool.{true, false}
+use mathlib.Core.Path.{◌≡◌, refl, ap, ◌∙◌}
+use mathlib.Core.Bool.{Bool, true, false, not, ◌&&◌, ◌||◌}
 use mathlib.Core.List.{List}
-use mathlib.Core.Option.{none, some}
-use Prim.Native.Nat.{ℕ, zero, suc, ◌+◌, ◌*◌, ◌-◌, ◌^◌, ◌<◌}
+use Prim.Native.Nat.{ℕ, zero, suc, ◌+◌, ◌*◌, ◌/◌, ◌-◌, ◌^◌, ◌<◌}
 use native.Mathlib.Omega.{arith}
-use lib.Dec.{leb, ltb, eqb}
-use lib.ListN.{length, get_or, take, drop}
-use lib.Seq.{drop-drop}
-use borrow.Author.Tests.{ne_eqb}
+use lib.Dec.{ltb, eqb}
+use lib.ListN.{length, get_or, take, drop, length-drop}
 use Rattle.laws.specs.Lists.{total}
-use Rattle.laws.proofs.Tests.{leb_same, leb_not_ltb, either, neither}
-use Rattle.laws.proofs.Lists.{decide, total_more}
-use Rattle.tag.specs.Tag.{nul_at, good_tag, tag_length}
+use Rattle.laws.proofs.Lists.{total_more}
+use Rattle.std.specs.List.{list_all}
+use Rattle.laws.specs.Parts.{read_pieces}
+use Rattle.laws.proofs.Stores.{rest_part}
+use Rattle.field.proofs.Laws.{field_part}
 use Rattle.model.specs.Frames.{word, words_at, num_entries, entry_addr, entry_length, entry_bytes}
 use Rattle.model.specs.Commands.{bad_entry}
 use Rattle.frame.specs.Frame.{good_entry}
-
--- a tag of which the length was found
-pub tag_found_lem : (t : List ℕ) (n : ℕ) → some n ≡ tag_length t → true ≡ good_tag t
-unfolding tag_length
-tag_found_lem t n e = decide (good_tag t) (λ g. sym g) (λ g. absurd (let z : ◌≡◌ {A = ℕ} 0 1 = let w : some n ≡ none = rw g at e in cc in omega arith))
-
-pub tag_missed : (t : List ℕ) → none ≡ tag_length t → false ≡ good_tag t
-unfolding tag_length
-tag_missed t e = decide (good_tag t) (λ g. absurd (let z : ◌≡◌ {A = ℕ} 0 1 = let w : none ≡ some (nul_at t) = rw g at e in cc in omega arith)) (λ g. sym g)
 
 -- Sums of entry counts
 
@@ -45,28 +35,27 @@ sum_more f i h =
 
 -- Entries
 
--- the code's test, which does not wrap
-pub entry_test : (e : List ℕ) (address len : ℕ) → address ≡ entry_addr e → len ≡ entry_length e → address < 2 ^ 64 → (len ≡ 0 → ⊥) → leb (len - 1) (18446744073709551615 - address) ≡ good_entry e
+-- an entry is read from its first 16 bytes
+good_front : (es : List ℕ) → good_entry (take entry_bytes es) ≡ good_entry es
 unfolding good_entry
-entry_test e address len p q h k =
-    rw (← p, ← q, ne_eqb len 0 k)
-    (leb_same (len - 1) (18446744073709551615 - address) (address + len) (2 ^ 64) (λ l. omega arith) (λ l. omega arith) ∙ leb_not_ltb (address + len) (2 ^ 64))
+good_front es = rw (field_part 8 es 0 16 0 (omega arith), field_part 4 es 0 16 8 (omega arith))
 
--- the first of k entries, which stand from `at` on: a bad one decides, and behind a good one the others do
-module _ (es : List ℕ) (at : ℕ) where
-  pub bad_here : (k : ℕ) → 0 < k → good_entry (drop at es) ≡ false → bad_entry k (drop at es) ≡ true
-  unfolding good_entry
-  bad_here zero h g = absurd (omega arith)
-  bad_here (suc k) h g =
-      let e = drop at es in
-      either (eqb (entry_length e) 0) (ltb (2 ^ 64) (entry_addr e + entry_length e)) (bad_entry k (drop entry_bytes e)) g
+-- none of two tests and of the rest hits where neither does and none of the rest
+none_hits : (a b r : Bool) → (not a && not b) && not r ≡ not (a || (b || r))
+none_hits true b r = refl
+none_hits false true r = refl
+none_hits false false r = refl
 
-  pub bad_later : (k : ℕ) → 0 < k → good_entry (drop at es) ≡ true → bad_entry k (drop at es) ≡ bad_entry (k - 1) (drop (at + 16) es)
-  unfolding good_entry
-  bad_later zero h g = absurd (omega arith)
-  bad_later (suc k) h g =
-      let e = drop at es in
-      let others : k ≡ suc k - 1 = omega arith in
-      neither (eqb (entry_length e) 0) (ltb (2 ^ 64) (entry_addr e + entry_length e)) (bad_entry k (drop entry_bytes e)) g
-      ∙ ap (bad_entry k) (drop-drop 16 at es)
-      ∙ ap (λ (n : ℕ). bad_entry n (drop (at + 16) es)) others
+-- k entries one after the other
+pub each_good : (k : ℕ) (es : List ℕ) → list_all good_entry (read_pieces (λ x. x) entry_bytes k es) ≡ not (bad_entry k es)
+unfolding good_entry read_pieces
+each_good zero es = refl
+each_good (suc k) es =
+    rw (good_front es, each_good k (drop entry_bytes es)) (none_hits (eqb (entry_length es) 0) (ltb (2 ^ 64) (entry_addr es + entry_length es)) (bad_entry k (drop entry_bytes es)))
+
+-- the rest of a frame whose length goes with so many entries
+pub entries_rest : (f : List ℕ) (k : ℕ) → length f ≡ 88 + 16 * k →
+    bad_entry k (drop 88 f) ≡ bad_entry (length (take (length f - 88) (drop 88 f)) / 16) (take (length f - 88) (drop 88 f))
+entries_rest f k h =
+    let n : length (drop 88 f) / 16 ≡ k = simp length-drop (omega arith) in
+    rw (rest_part 88 f, n)

@@ -1,6 +1,6 @@
 -- What the code's commands and its test of a frame's type and length stand for.
 use Rattle.std.specs.Prelude.{cond, List, ℕ, length}
-use Rattle.std.proofs.Math.Option.{Option, none, some}
+use Rattle.std.specs.Prelude.{Option, None, Some, Result, Ok, Err}
 use Rattle.model.specs.Frames.{create_resource, queue_resource, destroy_all, clear, get_parameters, set_parameters, destroy, drain, control, to_queue, create, live, exactly, at_least, rule_of, wrong_length, command_type}
 use Rattle.model.specs.Frames as model
 use Rattle.model.specs.Answers.{ErrorCode, invalid_operation, invalid_parameter}
@@ -10,10 +10,11 @@ use Rattle.frame.specs.declared.commands.LiveCommand.{LiveCommand}
 use Rattle.frame.specs.declared.commands.LiveCommand.TheVariants.{Destroy, Drain, Control, ToQueue}
 use Rattle.frame.specs.declared.commands.Command.{Command}
 use Rattle.frame.specs.declared.commands.Command.TheVariants.{Create, Live}
+use Rattle.frame.specs.declared.commands.LengthRule.{LengthRule}
+use Rattle.frame.specs.declared.commands.LengthRule.TheVariants.{Exactly, AtLeast}
 use Rattle.frame.specs.declared.commands.CommandRule.{CommandRule}
-use Rattle.frame.specs.declared.commands.CommandRule.TheVariants.{Exactly, AtLeast, Missing}
-use Rattle.frame.specs.declared.commands.Checked.{Checked}
-use Rattle.frame.specs.declared.commands.Checked.TheVariants.{Unknown, Wrong, Right}
+use Rattle.protocol.specs.declared.codes.ErrorCode as code
+use Rattle.protocol.specs.Codes.{error_meant}
 
 -- the model's commands
 abbrev pub queue_command_of : QueueCommand → model.QueueCommand
@@ -45,24 +46,25 @@ ruled rule c n = cond (wrong_length rule n) (wrong invalid_parameter) (right c)
 
 -- of one whose type has that rule in the table of commands, or none
 abbrev pub verdict : Option model.CommandRule → ℕ → Verdict
-verdict none n = wrong invalid_operation
-verdict (some l) n = ruled l.length_rule l.command n
+verdict None n = wrong invalid_operation
+verdict (Some l) n = ruled l.length_rule l.command n
 
 -- what a frame's type and length say
 abbrev pub verdict_for : List ℕ → Verdict
 verdict_for f = verdict (rule_of (command_type f)) (length f)
 
--- the same as of a rule in the model, by the code's rule
-abbrev pub rule_verdict : CommandRule → ℕ → Verdict
-rule_verdict (Exactly k c) n = ruled (exactly k) (meant c) n
-rule_verdict (AtLeast k c) n = ruled (at_least k) (meant c) n
-rule_verdict Missing n = wrong invalid_operation
+-- the model's rules: of length, and of a type
+abbrev pub length_rule_of : LengthRule → model.LengthRule
+length_rule_of (Exactly n) = exactly n
+length_rule_of (AtLeast n) = at_least n
+
+abbrev pub rule_meant : ℕ → CommandRule → model.CommandRule
+rule_meant ty rule = record { type = ty; command = meant rule.command; length_rule = length_rule_of rule.length }
 
 -- what the code's test found
-abbrev pub verdict_of : Checked → Verdict
-verdict_of Unknown = wrong invalid_operation
-verdict_of Wrong = wrong invalid_parameter
-verdict_of (Right c) = right (meant c)
+abbrev pub verdict_of : Result Command code.ErrorCode → Verdict
+verdict_of (Ok c) = right (meant c)
+verdict_of (Err e) = wrong (error_meant e)
 
 -- the bytes that the frame of a command has at least: of one to a queue, and of any
 abbrev pub queue_length : model.QueueCommand → ℕ

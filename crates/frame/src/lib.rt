@@ -1,18 +1,18 @@
 // Checks of a command's frame: its type and length, and the fields of its payload, which is read as the part of the frame from offset 8 and never copied.
 #![tactic(auto)]
 
-ghost use Rattle.std.specs.Prelude.{◌≡◌, ◌+◌, ◌*◌, ◌≤◌, not, length, take};
+ghost use Rattle.std.specs.Prelude.{◌≡◌, ◌+◌, ◌*◌, ◌/◌, ◌≤◌, not, length, take};
 ghost use Rattle.laws.specs.Lists.{total};
 ghost use Rattle.tag.specs.Tag.{good_tag, tag_in};
 ghost use Rattle.model.specs.Frames.{command_type, stream_id, coded_format, queue_type, resource_id, num_entries, timestamp_sent, frame_width, frame_height, frame_rate};
 ghost use Rattle.model.specs.Commands.{bad_entry};
 ghost use Rattle.frame.specs.Frame.{good_creation, good_entry, good_entries, good_resource, good_sizes, good_set};
 
-use protocol::{HEADER, MOST_PLANES, coded_good, extent_good, in_range};
+use protocol::{HEADER, MOST_PLANES, coded_good, extent_good};
 
 mod commands;
 
-pub use commands::{Checked, Command, LiveCommand, QueueCommand, check};
+pub use commands::{Command, LiveCommand, QueueCommand, check};
 
 // Offsets in the payload, by the draft's structs. stream_create:
 const IN_MEM_TYPE: usize = 0;
@@ -48,39 +48,31 @@ const FRAME_HEIGHT: usize = 12;
 const FRAME_RATE: usize = 40;
 
 // Whether the frame of a create has memory types of 0, a coded format and a good tag.
+#[tactic(auto, unfolding(crate::specs::Frame::good_creation))]
 pub fn creation_good(frame: &[u8]) -> bool
     requires { 88 ≤ length frame.now }
     ensures { result ≡ good_creation frame.now }
 {
-    if field::payload_u32(frame, IN_MEM_TYPE) != 0 {
-        return false;
-    }
-    if field::payload_u32(frame, OUT_MEM_TYPE) != 0 {
-        return false;
-    }
-    if !coded_good(coded_format(frame)) {
-        return false;
-    }
-    tag_good(frame)
+    field::payload_u32(frame, IN_MEM_TYPE) == 0
+        && field::payload_u32(frame, OUT_MEM_TYPE) == 0
+        && coded_good(coded_format(frame))
+        && tag_good(frame)
 }
 
 // Whether the frame of a resource create, 88 bytes and its entries, is good behind its queue type.
+#[tactic(auto, using(std::proofs::lemmas::Bool::Decides::nat_tests), unfolding(crate::specs::Frame::good_resource, laws::specs::Tests::within))]
 pub fn resource_good(frame: &[u8]) -> bool
     requires { 88 ≤ length frame.now }
     ensures { result ≡ good_resource frame.now }
 {
-    if !in_range(field::payload_u32(frame, PLANES_LAYOUT), 1, 2) {
-        return false;
-    }
     let planes = field::payload_u32(frame, NUM_PLANES);
-    if !in_range(planes, 1, MOST_PLANES) {
-        return false;
-    }
-    let sum = entry_sum(frame, planes as usize);
-    entries_good(frame, sum)
+    (1..=2).contains(&field::payload_u32(frame, PLANES_LAYOUT))
+        && (1..=MOST_PLANES).contains(&planes)
+        && entries_good(frame, entry_sum(frame, planes as usize))
 }
 
 // Whether the frame of a queue command, 64 bytes, has at most 8 sizes.
+#[tactic(auto, using(std::proofs::lemmas::Bool::Decides::nat_tests), unfolding(crate::specs::Frame::good_sizes))]
 pub fn sizes_good(frame: &[u8]) -> bool
     requires { 64 ≤ length frame.now }
     ensures { result ≡ good_sizes frame.now }
@@ -89,25 +81,24 @@ pub fn sizes_good(frame: &[u8]) -> bool
 }
 
 // Whether the frame of a set, 120 bytes, has the queue's format and a good width and height.
+#[tactic(auto, unfolding(crate::specs::Frame::good_set))]
 pub fn set_good(frame: &[u8], format: u32) -> bool
     requires { 120 ≤ length frame.now }
     ensures { result ≡ good_set format frame.now }
 {
-    if field::payload_u32(frame, FORMAT_SENT) != format {
-        return false;
-    }
-    if !extent_good(frame_width(frame)) {
-        return false;
-    }
-    extent_good(frame_height(frame))
+    field::payload_u32(frame, FORMAT_SENT) == format
+        && extent_good(frame_width(frame))
+        && extent_good(frame_height(frame))
 }
+
+// Kept as functions on the bytes: views would be five structs, one for each least length, and what is promised of a frame speaks of its bytes.
 
 // The type of a command.
 pub fn kind(frame: &[u8]) -> u32
     requires { 8 ≤ length frame.now }
     ensures { result ≡ command_type frame.now }
 {
-    field::read_u32(frame, 0)
+    field::read::<u32>(frame, 0)
 }
 
 // The stream number of a command.
@@ -115,7 +106,7 @@ pub fn stream(frame: &[u8]) -> u32
     requires { 8 ≤ length frame.now }
     ensures { result ≡ stream_id frame.now }
 {
-    field::read_u32(frame, 4)
+    field::read::<u32>(frame, 4)
 }
 
 // The coded format of a create.
@@ -147,8 +138,7 @@ pub fn timestamp(frame: &[u8]) -> u64
     requires { 64 ≤ length frame.now }
     ensures { result ≡ timestamp_sent frame.now }
 {
-    let payload = &frame[HEADER..];
-    field::read_u64(payload, TIMESTAMP)
+    field::read::<u64>(&frame[HEADER..], TIMESTAMP)
 }
 
 // The width of a set.
@@ -176,78 +166,50 @@ pub fn frame_rate(frame: &[u8]) -> u32
 }
 
 // Whether the tag of a create is good.
+#[tactic(auto, unfolding(tag::specs::Tag::tag_length))]
 fn tag_good(frame: &[u8]) -> bool
     requires { 88 ≤ length frame.now }
     ensures { result ≡ good_tag (tag_in frame.now) }
 {
-    let tag = &frame[24..88];
-    let found = tag::tag_of(tag);
-    let tag::Tag::Good(_) = found else {
-        return false;
-    };
-    true
+    tag::tag_of(&frame[24..88]).is_some()
 }
 
 // The true sum of the first entry counts.
+#[tactic(auto, using(crate::proofs::Laws::sum_more))]
 fn entry_sum(frame: &[u8], planes: usize) -> u64
     requires { (88 ≤ length frame.now) × (planes ≤ 8) }
     ensures { result ≡ total (take planes (num_entries frame.now)) }
 {
-    let mut sum: u64 = 0;
-    let mut i = 0;
-    while i < planes {
-        sum += field::payload_u32(frame, NUM_ENTRIES + 4 * i) as u64;
-        i += 1;
+    let mut sum = 0;
+    for i in 0..planes {
+        sum += u64::from(field::payload_u32(frame, NUM_ENTRIES + 4 * i));
     }
     sum
 }
 
 // Whether there are 1 to 256 entries, the frame has the length that goes with them, and each is good.
+#[tactic(auto, using(std::proofs::lemmas::Bool::Decides::nat_tests, crate::proofs::Laws::entries_rest), unfolding(crate::specs::Frame::good_entries, laws::specs::Tests::within))]
 fn entries_good(frame: &[u8], sum: u64) -> bool
     requires { 88 ≤ length frame.now }
     ensures { result ≡ good_entries frame.now sum }
 {
-    if sum < 1 {
-        return false;
-    }
-    if 256 < sum {
-        return false;
-    }
-    let n = sum as usize;
-    if frame.len() != 88 + 16 * n {
-        return false;
-    }
-    let entries = &frame[88..];
-    all_good(entries, n)
+    (1..=256).contains(&sum) && frame.len() == 88 + 16 * sum as usize && all_good(&frame[88..])
 }
 
-// Whether each of the first n entries is good.
-fn all_good(entries: &[u8], n: usize) -> bool
-    requires { 16 * n ≤ length entries.now }
-    ensures { result ≡ not (bad_entry n entries.now) }
+// Whether each entry is good.
+fn all_good(entries: &[u8]) -> bool
+    ensures { result ≡ not (bad_entry (length entries.now / 16) entries.now) }
 {
-    let mut left = n;
-    let mut at = 0;
-    while 0 < left {
-        let entry = &entries[at..];
-        if !entry_good(entry) {
-            return false;
-        }
-        at += 16;
-        left -= 1;
-    }
-    true
+    entries.chunks_exact(16).all(entry_good)
 }
 
 // Whether the entry in the first 16 bytes is good.
+#[tactic(auto, unfolding(crate::specs::Frame::good_entry))]
 fn entry_good(entry: &[u8]) -> bool
     requires { 16 ≤ length entry.now }
     ensures { result ≡ good_entry entry.now }
 {
-    let address = field::read_u64(entry, 0);
-    let len = field::read_u32(entry, 8) as u64;
-    if len == 0 {
-        return false;
-    }
-    len - 1 <= 18446744073709551615 - address
+    let address = field::read::<u64>(entry, 0);
+    let len = u64::from(field::read::<u32>(entry, 8));
+    len != 0 && len - 1 <= u64::MAX - address
 }

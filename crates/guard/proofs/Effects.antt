@@ -1,6 +1,6 @@
 -- The effect of a step, by the host's first tests and by what was served on the used words.
 use mathlib.Core.Path.{◌≡◌, refl, sym, ap, ◌∙◌, subst}
-use mathlib.Core.Option.{Option, none, some}
+use Rattle.std.specs.Prelude.{Option, None, Some}
 use mathlib.Core.List.{List, ◌++◌}
 use Prim.Native.Nat.{ℕ, ◌≤◌}
 use native.Mathlib.Nat.{zero-add}
@@ -16,7 +16,20 @@ use Rattle.model.specs.Tables.{Effect, valid, carried_out, effect}
 use Rattle.model.proofs.Tables.{Lent, not_refused, valid_device, valid_used}
 use Rattle.model.proofs.Unchanged.{writes_at_most_lem}
 use Rattle.table.specs.Blocks.{decode, layout}
+use Rattle.protocol.specs.declared.outcome.Refusal.{Refusal}
+use Rattle.protocol.specs.declared.outcome.Refusal.TheVariants.{ShortTable, InvalidTable, ShortRoom, ShortCommand, UnexpectedReport, BadFlags, NoFrame}
+use Rattle.protocol.specs.Refusals.{refusal_number}
 use Rattle.device.specs.Served.{Encodes, reply_of, Served}
+
+-- a refusal has a number of its own, other than 0
+pub has_number : (e : Refusal) → refusal_number e ≡ 0 → ⊥
+has_number ShortTable h = omega arith
+has_number InvalidTable h = omega arith
+has_number ShortRoom h = omega arith
+has_number ShortCommand h = omega arith
+has_number UnexpectedReport h = omega arith
+has_number BadFlags h = omega arith
+has_number NoFrame h = omega arith
 
 -- refused by the host's first tests
 pub turned_away : (t room : List ℕ) (a : Act) (k : ℕ) {refusal written : ℕ} → k ≡ host_refusal (length t) (length room) (valid layout t) → (k ≡ 0 → ⊥) → (refusal ≡ k) × (written ≡ 0)
@@ -47,7 +60,7 @@ module _ (t room : List ℕ) (a : Act) {k : ℕ} (e : k ≡ host_refusal (length
   runs o named = rw (← e, z, named) refl
 
   -- none
-  pub unnamed : {refusal written : ℕ} → stream_of a ≡ none → (refusal ≡ 4) × (written ≡ 0)
+  pub unnamed : {refusal written : ℕ} → stream_of a ≡ None → (refusal ≡ 4) × (written ≡ 0)
       → ◌≡◌ {A = Effect} (record { refusal = refusal; written = written; table = t; room = room }) (effect layout t a room)
   unnamed named told =
       (λ i. record {
@@ -56,10 +69,10 @@ module _ (t room : List ℕ) (a : Act) {k : ℕ} (e : k ≡ host_refusal (length
         table = (sym (take-append-drop table_words t) ∙ ap (λ (w : List ℕ). w ++ drop table_words t) stands.held) i;
         room = room;
       })
-      ∙ sym (runs none named)
+      ∙ sym (runs None named)
 
   -- the stream n, and its step was served
-  module _ (n : ℕ) (named : stream_of a ≡ some n) {left room' : List ℕ} {refusal written : ℕ}
+  module _ (n : ℕ) (named : stream_of a ≡ Some n) {left room' : List ℕ} {refusal written : ℕ}
       (served : (d : Device) → Encodes (take table_words t) d → Served d n a left room room' refusal written) where
     bytes : List ℕ
     bytes = bytes_of (reply_of device_in n a).answers
@@ -69,7 +82,7 @@ module _ (t room : List ℕ) (a : Act) {k : ℕ} (e : k ≡ host_refusal (length
 
     size : length bytes ≤ 1056
     unfolding bytes
-    size = subst (λ (x : Effect). x.written ≤ 1056) (runs (some n) named) (writes_at_most_lem layout t a room)
+    size = subst (λ (x : Effect). x.written ≤ 1056) (runs (Some n) named) (writes_at_most_lem layout t a room)
 
     count : written ≡ length bytes
     unfolding bytes
@@ -88,4 +101,4 @@ module _ (t room : List ℕ) (a : Act) {k : ℕ} (e : k ≡ host_refusal (length
     unfolding bytes
     carried =
         (λ i. record { refusal = done.refusal_is i; written = count i; table = done.words i ++ drop table_words t; room = stored i })
-        ∙ sym (runs (some n) named)
+        ∙ sym (runs (Some n) named)

@@ -6,81 +6,57 @@ ghost use Rattle.std.specs.Prelude.{◌≡◌, length};
 ghost use Rattle.model.specs.Steps.{command, finish, drained, host_refusal};
 ghost use Rattle.model.specs.Tables.{valid, effect};
 ghost use Rattle.table.specs.Blocks.{layout};
+ghost use Rattle.protocol.specs.Refusals.{refusal_of, outcome_of};
 ghost use Rattle.guard.specs.AsEffect.{as_effect};
 
-use protocol::{
-    ANSWER_ROOM, HEADER, INVALID_TABLE, Outcome, SHORT_COMMAND, SHORT_ROOM, SHORT_TABLE, refused,
-};
+use protocol::{ANSWER_ROOM, FinishReport, HEADER, Refusal};
 use table::TABLE_WORDS;
 
 // A command.
-pub fn command(table: &mut [u32], ticket: u32, frame: &[u8], answers: &mut [u8]) -> Outcome
-    ensures { as_effect result table.new answers.new ≡ effect layout table.old (command ticket frame.now) answers.old }
+pub fn command(
+    table: &mut [u32],
+    ticket: u32,
+    frame: &[u8],
+    answers: &mut [u8],
+) -> Result<u32, Refusal>
+    ensures { as_effect (outcome_of result) table.new answers.new ≡ effect layout table.old (command ticket frame.now) answers.old }
 {
-    let refusal = host_refusal(table, answers.len());
-    if refusal != 0 {
-        return refused(refusal);
-    }
+    host_tests(table, answers.len())?;
     if frame.len() < HEADER {
-        return refused(SHORT_COMMAND);
+        return Err(Refusal::ShortCommand);
     }
     let written = device::command(&mut table[0..TABLE_WORDS], ticket, frame, answers);
-    Outcome {
-        refusal: 0,
-        written: written as u32,
-    }
+    Ok(written as u32)
 }
 
 // A finish report.
-pub fn finish(
-    table: &mut [u32],
-    stream: u32,
-    queue: u32,
-    resource: u32,
-    flags: u32,
-    timestamp: u64,
-    answers: &mut [u8],
-) -> Outcome
-    ensures { as_effect result table.new answers.new ≡ effect layout table.old (finish stream queue resource flags timestamp) answers.old }
+pub fn finish(table: &mut [u32], report: FinishReport, answers: &mut [u8]) -> Result<u32, Refusal>
+    ensures { as_effect (outcome_of result) table.new answers.new ≡ effect layout table.old (finish report.stream report.queue report.resource report.flags report.timestamp) answers.old }
 {
-    let refusal = host_refusal(table, answers.len());
-    if refusal != 0 {
-        return refused(refusal);
-    }
-    device::finish(
-        &mut table[0..TABLE_WORDS],
-        stream,
-        queue,
-        resource,
-        flags,
-        timestamp,
-        answers,
-    )
+    host_tests(table, answers.len())?;
+    device::finish(&mut table[0..TABLE_WORDS], report, answers)
 }
 
 // A drained report.
-pub fn drained(table: &mut [u32], stream: u32, answers: &mut [u8]) -> Outcome
-    ensures { as_effect result table.new answers.new ≡ effect layout table.old (drained stream) answers.old }
+pub fn drained(table: &mut [u32], stream: u32, answers: &mut [u8]) -> Result<u32, Refusal>
+    ensures { as_effect (outcome_of result) table.new answers.new ≡ effect layout table.old (drained stream) answers.old }
 {
-    let refusal = host_refusal(table, answers.len());
-    if refusal != 0 {
-        return refused(refusal);
-    }
+    host_tests(table, answers.len())?;
     device::drained(&mut table[0..TABLE_WORDS], stream, answers)
 }
 
-// The host's first tests, in their order: the table's words, the room's bytes, the table's validity; 0 if none hits.
-fn host_refusal(table: &[u32], room: usize) -> u32
-    ensures { result ≡ host_refusal (length table.now) room (valid layout table.now) }
+// The host's first tests, in their order: the table's words, the room's bytes, the table's validity.
+fn host_tests(table: &[u32], room: usize) -> Result<(), Refusal>
+    ensures { refusal_of result ≡ host_refusal (length table.now) room (valid layout table.now) }
 {
     if table.len() < TABLE_WORDS {
-        return SHORT_TABLE;
+        return Err(Refusal::ShortTable);
     }
     if room < ANSWER_ROOM {
-        return SHORT_ROOM;
+        return Err(Refusal::ShortRoom);
     }
     if !valid::valid(&table[0..TABLE_WORDS]) {
-        return INVALID_TABLE;
+        return Err(Refusal::InvalidTable);
     }
-    0
+    Ok(())
 }

@@ -1,7 +1,7 @@
 -- Laws of the numbers in a list of elements: those from a place on, those that are read out of words, and elements counted by their numbers.
 use mathlib.Core.Path.{◌≡◌, refl, sym, ap, ap₂, ◌∙◌, subst}
 use mathlib.Core.Bool.{Bool, true, false, not}
-use mathlib.Core.Option.{Option, none, some}
+use Rattle.std.specs.Prelude.{Option, None, Some}
 use mathlib.Core.List.{List, [], ◌∷◌, ◌++◌, map}
 use Prim.Native.Nat.{ℕ, zero, suc, ◌+◌, ◌<◌}
 use native.Mathlib.Numerals.{add-one}
@@ -27,8 +27,8 @@ module _ {A : Type 0} (key : A → Option ℕ) where
   distinct_from (x ∷ l) (suc i) h = distinct_from l i (behind (key x) h)
     where
       behind : (o : Option ℕ) → distinct (to_list o ++ numbers_in key l) ≡ true → distinct (numbers_in key l) ≡ true
-      behind none e = e
-      behind (some n) e = and_right (not (stands_in n (numbers_in key l))) _ e
+      behind None e = e
+      behind (Some n) e = and_right (not (stands_in n (numbers_in key l))) _ e
 
   -- the numbers that words give, piece by piece, are those of the elements whose words they are
   module _ (f : A → List ℕ) (g : List ℕ → Option ℕ) (k : ℕ) (p : A → Bool) (len : (x : A) → p x ≡ true → length (f x) ≡ k) (gives : (x : A) → g (f x) ≡ key x) where
@@ -73,4 +73,4 @@ module _ {A : Type 0} (key : A → ℕ) where
       each_stands (x ∷ m) o =
           decide (stands_in (key x) ns)
           (λ e. simp e (omega (arith, each_stands m (λ n f. omega (arith, o n f)))))
-          (λ e. let none : 1 + how_many_of m (key x) ≡ 0 = simp (eqb_same (key x)) at (o (key x) e) in absurd (omega (arith, none)))
+          (λ e. let None : 1 + how_many_of m (key x) ≡ 0 = simp (eqb_same (key x)) at (o (key x) e) in absurd (omega (arith, None)))

@@ -1,6 +1,6 @@
 -- Laws of tests in order.
 use mathlib.Core.Path.{◌≡◌, refl, ◌∙◌}
-use mathlib.Core.Option.{none, some}
+use Rattle.std.specs.Prelude.{None, Some}
 use mathlib.Core.Bool.{Bool, true, false, not, ◌&&◌}
 use Prim.Native.Nat.{ℕ}
 use native.Mathlib.Omega.{arith}
@@ -66,12 +66,6 @@ module _ {E A : Type 0} (fail : E → A) where
   pub when_good : {v : A} (e : E) (good : Bool) (ts : TestList E A) → v ≡ by_tests fail (not good ⇒ e then ts) → good ≡ true → v ≡ by_tests fail ts
   when_good e good ts p h = p ∙ tests_miss (not good) e ts (rw h)
 
--- no test hits: neither the first nor one behind it
-pub no_hit : {E A : Type 0} (t : Bool) (e : E) (ts : TestList E A) → first_hit (t ⇒ e then ts) ≡ none → (t ≡ false) × (first_hit ts ≡ none)
-unfolding first_hit
-no_hit true e ts h = absurd (let z : ◌≡◌ {A = ℕ} 0 1 = cc in omega arith)
-no_hit false e ts h = (refl, h)
-
 -- tests before others
 module _ {E A B : Type 0} where
   abbrev pub ahead : TestList E B → TestList E A → TestList E A
@@ -79,13 +73,13 @@ module _ {E A B : Type 0} where
   ahead (hit ⇒ e then ts) us = hit ⇒ e then ahead ts us
 
 module _ {E A B : Type 0} (fail : E → A) where
-  pub ahead_hits : (e : E) (ts : TestList E B) (us : TestList E A) → first_hit ts ≡ some e → by_tests fail (ahead ts us) ≡ fail e
+  pub ahead_hits : (e : E) (ts : TestList E B) (us : TestList E A) → first_hit ts ≡ Some e → by_tests fail (ahead ts us) ≡ fail e
   unfolding by_tests first_hit
   ahead_hits e (accept v) us h = absurd (let z : ◌≡◌ {A = ℕ} 0 1 = cc in omega arith)
   ahead_hits e (true ⇒ x then ts) us h = let w : x ≡ e = cc in rw w
   ahead_hits e (false ⇒ x then ts) us h = ahead_hits e ts us h
 
-  pub ahead_misses : (ts : TestList E B) (us : TestList E A) → first_hit ts ≡ none → by_tests fail (ahead ts us) ≡ by_tests fail us
+  pub ahead_misses : (ts : TestList E B) (us : TestList E A) → first_hit ts ≡ None → by_tests fail (ahead ts us) ≡ by_tests fail us
   unfolding by_tests first_hit
   ahead_misses (accept v) us h = refl
   ahead_misses (true ⇒ x then ts) us h = absurd (let z : ◌≡◌ {A = ℕ} 0 1 = cc in omega arith)

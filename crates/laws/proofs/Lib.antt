@@ -9,3 +9,4 @@ pub mod Pieces
 pub mod Same
 pub mod Stores
 pub mod Distinct
+pub mod Ranges

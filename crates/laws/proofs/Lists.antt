@@ -2,7 +2,7 @@
 -- the test, with `decide`.
 use mathlib.Core.Path.{◌≡◌, refl, sym, ap, ap₂, ◌∙◌, subst}
 use mathlib.Core.Bool.{Bool, true, false, cond, not, ◌&&◌, ◌||◌, and_comm, and_assoc, true≢false, false≢true}
-use mathlib.Core.Option.{Option, none, some}
+use Rattle.std.specs.Prelude.{Option, None, Some, is_some}
 use mathlib.Core.List.{List, [], ◌∷◌, ◌++◌, map, append_assoc, append-nil, map-append}
 use Prim.Native.Nat.{ℕ, zero, suc, ◌+◌, ◌<◌, ◌≤◌}
 use native.Mathlib.Omega.{arith}
@@ -193,10 +193,15 @@ total_append (x ∷ l) m = omega (arith, total_append l m)
 pub total_more : (l : List ℕ) (i : ℕ) → i < length l → total (take (i + 1) l) ≡ total (take i l) + get_or l i 0
 total_more l i h = rw (add-one i, take-suc l i 0 h) (total_append (take i l) (get_or l i 0 ∷ []) ∙ (omega arith))
 
+-- there is a value, in std's word and in ours
+pub some_none : {A : Type 0} (x : Option A) → is_some x ≡ not (is_none x)
+some_none None = refl
+some_none (Some x) = refl
+
 -- an option without a value
-pub none_is : {A : Type 0} (x : Option A) → is_none x ≡ true → x ≡ none
-none_is none e = refl
-none_is (some x) e = absurd (false≢true e)
+pub none_is : {A : Type 0} (x : Option A) → is_none x ≡ true → x ≡ None
+none_is None e = refl
+none_is (Some x) e = absurd (false≢true e)
 
 -- the tests for a key below k and for one that is not
 module _ {A : Type 0} (key : A → ℕ) where
@@ -367,7 +372,7 @@ map_set f (x ∷ l) zero y = refl
 map_set f (x ∷ l) (suc i) y = ap (λ r. f x ∷ r) (map_set f l i y)
 
 pub set_append_add : {A : Type 0} (l m : List A) (i : ℕ) (y : A) → set (l ++ m) (length l + i) y ≡ l ++ set m i y
-set_append_add [] m i y = ap (λ (k : ℕ). set m k y) (let none : 0 + i ≡ i = omega arith in none)
+set_append_add [] m i y = ap (λ (k : ℕ). set m k y) (let None : 0 + i ≡ i = omega arith in None)
 set_append_add (x ∷ l) m i y = ap (λ (k : ℕ). set (x ∷ (l ++ m)) k y) (let next : suc (length l) + i ≡ suc (length l + i) = omega arith in next) ∙ ap (λ r. x ∷ r) (set_append_add l m i y)
 
 -- the numbers below n are n

@@ -1,13 +1,14 @@
 -- Laws of tests: both of two, of numbers, and of the bounded tests in the form that a loop which counts up wants (nothing yet, one more, the way out).
 use mathlib.Core.Path.{◌≡◌, refl, sym, ◌∙◌}
 use mathlib.Core.Bool.{Bool, true, false, not, ◌&&◌, ◌||◌, and-false, and-eq-true_iff, true≢false, false≢true}
-use mathlib.Core.Option.{Option, none, some, or_else}
+use Rattle.std.specs.Prelude.{Option, None, Some, MatchOption}
+use Rattle.laws.specs.Lists.{otherwise}
 use Prim.Native.Nat.{ℕ, zero, suc, ◌+◌, ◌≤◌, ◌<◌}
 use native.Mathlib.Numerals.{add-one}
 use native.Mathlib.Decide.{le_ind}
 use native.Mathlib.Omega.{arith}
-use lib.Dec.{leb, ltb, eqb}
-use borrow.Author.Tests.{le-leb, lt-leb, leb-true, le-ltb, ltb-false, eq-eqb, ne_eqb, not-true}
+use lib.Dec.{leb, ltb}
+use borrow.Author.Tests.{le-leb, lt-leb, leb-true, le-ltb, ltb-false, not-true}
 use Rattle.laws.specs.Tests.{within, all_below, lowest_below}
 
 -- a test is not true and false
@@ -23,9 +24,6 @@ ne_true false h = refl
 pub tests_same : (a b : Bool) → (a ≡ true → b ≡ true) → (b ≡ true → a ≡ true) → a ≡ b
 tests_same true b to from = sym (to refl)
 tests_same false b to from = sym (ne_true b (λ e. false≢true (from e)))
-
-pub leb_same : (a b c d : ℕ) → (a ≤ b → c ≤ d) → (c ≤ d → a ≤ b) → leb a b ≡ leb c d
-leb_same a b c d to from = tests_same (leb a b) (leb c d) (λ e. le-leb c d (to (leb-true a b e))) (λ e. le-leb a b (from (leb-true c d e)))
 
 -- both of two tests
 pub both : {a b : Bool} → a ≡ true → b ≡ true → a && b ≡ true
@@ -51,13 +49,6 @@ was_true p q = sym p ∙ q
 pub was_false : {r t : Bool} → r ≡ t → r ≡ false → t ≡ false
 was_false p q = sym p ∙ q
 
--- what the code tested of the number r, which is n
-pub same_test : {r n m : ℕ} → r ≡ n → r ≡ m → eqb n m ≡ true
-same_test {r} {n} {m} p q = eq-eqb n m (sym p ∙ q)
-
-pub other_test : {r n m : ℕ} → r ≡ n → (r ≡ m → ⊥) → eqb n m ≡ false
-other_test {r} {n} {m} p q = ne_eqb n m (λ e. q (p ∙ e))
-
 -- one of two tests hits, or neither does
 pub either : (a b r : Bool) → not a && not b ≡ false → (a || (b || r)) ≡ true
 either true b r h = refl
@@ -76,10 +67,6 @@ leb_not_ltb a b =
 
 -- a number from lo to hi
 module _ (x lo hi : ℕ) where
-  pub within_from : lo ≤ x → leb x hi ≡ within x lo hi
-  unfolding within
-  within_from h = rw (le-leb lo x h)
-
   pub within_true : lo ≤ x → x ≤ hi → within x lo hi ≡ true
   unfolding within
   within_true l h = both (le-leb lo x l) (le-leb x hi h)
@@ -98,41 +85,56 @@ module _ (x lo hi : ℕ) where
 
 -- the lowest number that passes
 module _ (p : ℕ → Bool) where
-  pub lowest_none : lowest_below 0 p ≡ none
+  pub lowest_none : lowest_below 0 p ≡ None
   unfolding lowest_below
   lowest_none = refl
 
-  pub lowest_more : (i : ℕ) → lowest_below i p ≡ none → p i ≡ false → lowest_below (i + 1) p ≡ none
-  unfolding lowest_below or_else
+  pub lowest_more : (i : ℕ) → lowest_below i p ≡ None → p i ≡ false → lowest_below (i + 1) p ≡ None
+  unfolding lowest_below otherwise
   lowest_more i h e = rw (add-one i) (rw (h, e))
 
-  lowest_hit : (i : ℕ) → lowest_below i p ≡ none → p i ≡ true → lowest_below (suc i) p ≡ some i
-  unfolding lowest_below or_else
+  lowest_hit : (i : ℕ) → lowest_below i p ≡ None → p i ≡ true → lowest_below (suc i) p ≡ Some i
+  unfolding lowest_below otherwise
   lowest_hit i h e = rw (h, e)
 
-  lowest_on : (i n : ℕ) → lowest_below n p ≡ some i → lowest_below (suc n) p ≡ some i
-  unfolding lowest_below or_else
+  lowest_on : (i n : ℕ) → lowest_below n p ≡ Some i → lowest_below (suc n) p ≡ Some i
+  unfolding lowest_below otherwise
   lowest_on i n h = rw h
 
-  pub lowest_found : (n i : ℕ) → i < n → lowest_below i p ≡ none → p i ≡ true → lowest_below n p ≡ some i
-  lowest_found n i h e t = le_ind (λ (m : ℕ). lowest_below m p ≡ some i) (lowest_hit i e t) (λ m _ r. lowest_on i m r) n h
+  pub lowest_found : (n i : ℕ) → i < n → lowest_below i p ≡ None → p i ≡ true → lowest_below n p ≡ Some i
+  lowest_found n i h e t = le_ind (λ (m : ℕ). lowest_below m p ≡ Some i) (lowest_hit i e t) (λ m _ r. lowest_on i m r) n h
 
-  found : (n k : ℕ) → lowest_below n p ≡ some k → (k < n) × (p k ≡ true)
-  unfolding lowest_below or_else
+  found : (n k : ℕ) → lowest_below n p ≡ Some k → (k < n) × (p k ≡ true)
+  unfolding lowest_below otherwise
   found zero k e = absurd (let z : ◌≡◌ {A = ℕ} 0 1 = cc in omega arith)
   found (suc n) k e = go (lowest_below n p) refl (p n) refl (found n k)
     where
-      go : (r : Option ℕ) → lowest_below n p ≡ r → (b : Bool) → p n ≡ b → (lowest_below n p ≡ some k → (k < n) × (p k ≡ true)) → (k < suc n) × (p k ≡ true)
-      go (some j) h b g ih = let w = ih (h ∙ (rw h at e)) in (omega arith, w.1)
-      go none h true g ih = let m : n ≡ k = let w : some n ≡ some k = rw (h, g) at e in cc in (omega arith, rw (← m) g)
-      go none h false g ih = absurd (let z : ◌≡◌ {A = ℕ} 0 1 = let w : none ≡ some k = rw (h, g) at e in cc in omega arith)
+      go : (r : Option ℕ) → lowest_below n p ≡ r → (b : Bool) → p n ≡ b → (lowest_below n p ≡ Some k → (k < n) × (p k ≡ true)) → (k < suc n) × (p k ≡ true)
+      go (Some j) h b g ih = let w = ih (h ∙ (rw h at e)) in (omega arith, w.1)
+      go None h true g ih = let m : n ≡ k = let w : Some n ≡ Some k = rw (h, g) at e in cc in (omega arith, rw (← m) g)
+      go None h false g ih = absurd (let z : ◌≡◌ {A = ℕ} 0 1 = let w : None ≡ Some k = rw (h, g) at e in cc in omega arith)
+
+  none_to : (n : ℕ) → ((k : ℕ) → k < n → p k ≡ false) → lowest_below n p ≡ None
+  none_to zero h = lowest_none
+  none_to (suc n) h = rw (← add-one n) (lowest_more n (none_to n (λ k l. h k (omega arith))) (h n (omega arith)))
+
+  -- what a search of the numbers below n finds, as std's `find` over a range says it
+  pub lowest_from : (n : ℕ) (r : Option ℕ) → MatchOption r ((k : ℕ) → 0 ≤ k → k < n → p k ≡ false) (λ i. (0 ≤ i) × (i < n) × (p i ≡ true) × ((k : ℕ) → 0 ≤ k → k < i → p k ≡ false)) → r ≡ lowest_below n p
+  lowest_from n None h = sym (none_to n (λ k l. h k (omega arith) l))
+  lowest_from n (Some i) h = sym (lowest_found n i h.1 (none_to i (λ k l. h.3 k (omega arith) l)) h.2)
 
   -- what was found lies below the bound and passes the test
-  pub lowest_below_lem : (n k : ℕ) → lowest_below n p ≡ some k → k < n
+  pub lowest_below_lem : (n k : ℕ) → lowest_below n p ≡ Some k → k < n
   lowest_below_lem n k e = (found n k e).0
 
-  pub lowest_holds : (n k : ℕ) → lowest_below n p ≡ some k → p k ≡ true
+  pub lowest_holds : (n k : ℕ) → lowest_below n p ≡ Some k → p k ≡ true
   lowest_holds n k e = (found n k e).1
+
+-- two tests that agree below the bound
+pub lowest_ext : (p q : ℕ → Bool) (n : ℕ) → ((i : ℕ) → i < n → p i ≡ q i) → lowest_below n p ≡ lowest_below n q
+unfolding lowest_below otherwise
+lowest_ext p q zero h = refl
+lowest_ext p q (suc n) h = rw (lowest_ext p q n (λ i l. h i (omega arith)), h n (omega arith))
 
 -- p holds at each number below a bound
 module _ (p : ℕ → Bool) where

@@ -1,6 +1,6 @@
 -- Tests in order, of which the first that hits answers.
 use Rattle.std.specs.Prelude.{Bool, cond}
-use Rattle.std.proofs.Math.Option.{Option, none, some}
+use Rattle.std.specs.Prelude.{Option, None, Some}
 
 infixr 5 ◌⇒◌then◌
 -- tests, each with its error, and what is given where none of them hits
@@ -16,5 +16,5 @@ module _ {E A : Type 0} where
 
   -- the error of the first test that hits, if one does
   unfoldable pub first_hit : TestList E A → Option E
-  first_hit (accept v) = none
-  first_hit (hit ⇒ e then ts) = cond hit (some e) (first_hit ts)
+  first_hit (accept v) = None
+  first_hit (hit ⇒ e then ts) = cond hit (Some e) (first_hit ts)

@@ -1,6 +1,6 @@
 -- Lists picked by a test, tests of any or all of their elements, counts, and numbers that stand once.
 use Rattle.std.specs.Prelude.{ℕ, zero, suc, ◌+◌, Bool, true, false, cond, not, ◌&&◌, List, [], ◌∷◌, ◌++◌, eqb}
-use Rattle.std.proofs.Math.Option.{Option, none, some}
+use Rattle.std.specs.Prelude.{Option, None, Some}
 
 module _ {A : Type 0} where
   -- the elements that pass a test, in their order
@@ -35,24 +35,29 @@ module _ {A : Type 0} where
 
   -- there is no value
   abbrev pub is_none : Option A → Bool
-  is_none none = true
-  is_none (some x) = false
+  is_none None = true
+  is_none (Some x) = false
+
+  -- the value where there is one, else the other
+  unfoldable pub otherwise : Option A → Option A → Option A
+  otherwise None o = o
+  otherwise (Some x) o = Some x
 
   -- the value as a list of one, and no value as the empty list
   abbrev pub to_list : Option A → List A
-  to_list none = []
-  to_list (some x) = x ∷ []
+  to_list None = []
+  to_list (Some x) = x ∷ []
 
 -- a place one further on
 abbrev pub later : Option ℕ → Option ℕ
-later none = none
-later (some k) = some (suc k)
+later None = None
+later (Some k) = Some (suc k)
 
 module _ {A : Type 0} where
   -- the place of the first element that passes a test, counted from 0
   abbrev pub position : (A → Bool) → List A → Option ℕ
-  position p [] = none
-  position p (x ∷ xs) = cond (p x) (some 0) (later (position p xs))
+  position p [] = None
+  position p (x ∷ xs) = cond (p x) (Some 0) (later (position p xs))
 
 -- two lists of numbers are equal: as long, and with the same number at each place
 unfoldable pub same : List ℕ → List ℕ → Bool

@@ -1,26 +1,75 @@
 -- Laws of hexadecimal text, two digits at a time.
-use mathlib.Core.Path.{◌≡◌, refl, sym, ap}
-use mathlib.Core.Bool.{true, false, ◌&&◌, and-false}
+use mathlib.Core.Path.{◌≡◌, refl, sym, ap, ◌∙◌}
+use mathlib.Core.Bool.{Bool, true, false, cond, and-false}
 use mathlib.Core.List.{List, [], ◌∷◌}
-use Prim.Native.Nat.{ℕ, zero, suc, ◌+◌, ◌*◌, ◌/◌, ◌≤◌, ◌<◌}
+use Prim.Native.Nat.{ℕ, zero, suc, ◌+◌, ◌*◌, ◌-◌, ◌/◌, ◌%◌, ◌≤◌, ◌<◌}
 use native.Mathlib.Nat.{mul-suc}
-use native.Mathlib.Numerals.{add-one}
 use native.Mathlib.Omega.{arith}
 use lib.Dec.{ltb}
-use lib.ListN.{length, get_or, take, drop, drop_of_length-le}
-use lib.Seq.{drop-cons}
-use borrow.Author.Tests.{ltb-true, lt-ltb, le-ltb}
+use lib.ListN.{length, get_or, take, drop}
+use borrow.Author.Tests.{ltb-true, lt-ltb}
+use Rattle.std.specs.Char.{is_ascii_hexdigit}
+use Rattle.std.specs.List.{list_all}
 use Rattle.laws.specs.Lists.{all_of}
-use Rattle.laws.proofs.Tests.{never, both, and_left, and_right}
-use Rattle.laws.proofs.Lists.{all_true}
+use Rattle.laws.proofs.Tests.{never, ne_true, both, and_left, and_right, within_true, within_above, within_bounds}
+use Rattle.laws.specs.Tests.{within}
+use Rattle.laws.proofs.Lists.{decide, all_true}
 use Rattle.laws.proofs.Pieces.{pieces_length}
 use Rattle.line.specs.Hex.{digit_of, is_digit, is_hex, hex_bytes, hex_pair, hex_text}
 
+-- the number of a digit by the range that it is in; one that is in neither of the first two is in the third
+
+-- what a test chooses
+chosen : (t : Bool) (x y : ℕ) {z : ℕ} → t ≡ true → z ≡ x → z ≡ cond t x y
+chosen t x y e f = rw e f
+
+passed : (t : Bool) (x y : ℕ) {z : ℕ} → t ≡ false → z ≡ y → z ≡ cond t x y
+passed t x y e f = rw e f
+
+pub of_decimal : {b : ℕ} → 48 ≤ b → b ≤ 57 → b - 48 ≡ digit_of b
+unfolding digit_of
+of_decimal {b} h k = chosen _ _ _ (within_true b 48 57 h k) refl
+
+pub of_upper : {b : ℕ} → 65 ≤ b → b ≤ 70 → b - 65 + 10 ≡ digit_of b
+unfolding digit_of
+of_upper {b} h k = passed _ _ _ (within_above b 48 57 (omega arith)) (chosen _ _ _ (within_true b 65 70 h k) (omega arith))
+
+pub of_lower : {b : ℕ} → is_digit b ≡ true → (48 ≤ b → b ≤ 57 → ⊥) → (65 ≤ b → b ≤ 70 → ⊥) → (97 ≤ b) × (b - 97 + 10 ≡ digit_of b)
+unfolding digit_of
+of_lower {b} e x y =
+    let d = ne_true (within b 48 57) (λ l. let w = within_bounds b 48 57 l in x w.0 w.1) in
+    let u = ne_true (within b 65 70) (λ l. let w = within_bounds b 65 70 l in y w.0 w.1) in
+    decide (within b 97 102)
+    (λ l. let bounds = within_bounds b 97 102 l in (bounds.0, rw (d, u, l) (omega (arith, bounds.0))))
+    (λ l. never (sym e ∙ rw (d, u, l) refl))
+
+-- the library's test of a digit is the same
+same_digit : (b : ℕ) → is_ascii_hexdigit b ≡ is_digit b
+unfolding digit_of within
+same_digit b =
+    decide (within b 48 57)
+    (λ d. let w = within_bounds b 48 57 d in rw d (sym (lt-ltb (b - 48) 16 (omega arith))))
+    (λ d. decide (within b 65 70)
+    (λ u. let w = within_bounds b 65 70 u in rw (d, u) (sym (lt-ltb (b - 55) 16 (omega arith))))
+    (λ u. decide (within b 97 102)
+    (λ l. let w = within_bounds b 97 102 l in rw (d, u, l) (sym (lt-ltb (b - 87) 16 (omega arith))))
+    (λ l. rw (d, u, l))))
+
+-- an even number of bytes is hexadecimal where each is a digit, and an odd number never is
+pub hex_by_digits : (s : List ℕ) → length s % 2 ≡ 0 → list_all is_ascii_hexdigit s ≡ is_hex s
+unfolding is_hex
+hex_by_digits [] e = refl
+hex_by_digits (h ∷ []) e = absurd (omega arith)
+hex_by_digits (h ∷ l ∷ s) e = rw (same_digit h, same_digit l, hex_by_digits s (omega arith))
+
+pub hex_odd : (s : List ℕ) → (length s % 2 ≡ 0 → ⊥) → false ≡ is_hex s
+unfolding is_hex
+hex_odd [] e = absurd (e refl)
+hex_odd (h ∷ []) e = refl
+hex_odd (h ∷ l ∷ s) e = rw (← hex_odd s (λ x. e (omega arith)), and-false (is_digit l), and-false (is_digit h))
+
 double : (n : ℕ) → 2 * suc n ≡ suc (suc (2 * n))
 double n = omega (arith, mul-suc 2 n)
-
-two_more : (n : ℕ) → n + 2 ≡ suc (suc n)
-two_more n = omega arith
 
 pub length_bytes : (s : List ℕ) → length (hex_bytes s) ≡ length s / 2
 unfolding hex_bytes
@@ -92,29 +141,6 @@ bytes_below (h ∷ l ∷ s) e =
     let a = ltb-true (digit_of h) 16 (and_left (is_digit h) _ e) in
     let b = ltb-true (digit_of l) 16 (and_left (is_digit l) (is_hex s) r) in
     both (lt-ltb (16 * digit_of h + digit_of l) 256 (omega arith)) (bytes_below s (and_right (is_digit l) (is_hex s) r))
-
--- what is left of a line, from i on: nothing; one byte; a first or a second byte that is no digit; two digits and the rest
-module _ (s : List ℕ) (i : ℕ) where
-  pub left_none : length s ≤ i → is_hex (drop i s) ≡ true
-  unfolding is_hex
-  left_none h = rw (drop_of_length-le s h)
-
-  pub left_one : i + 1 ≡ length s → is_hex (drop i s) ≡ false
-  unfolding is_hex
-  left_one h = rw (drop-cons s i 0 (omega arith), drop_of_length-le s {i = suc i} (omega arith))
-
-  left_two : i + 1 < length s → is_hex (drop i s) ≡ (is_digit (get_or s i 0) && (is_digit (get_or s (i + 1) 0) && is_hex (drop (i + 2) s)))
-  unfolding is_hex
-  left_two h = rw (drop-cons s i 0 (omega arith), drop-cons s (suc i) 0 (omega arith), add-one i, two_more i)
-
-  pub left_low : i + 1 < length s → 16 ≤ digit_of (get_or s i 0) → is_hex (drop i s) ≡ false
-  left_low h b = rw (left_two h, le-ltb (digit_of (get_or s i 0)) 16 b)
-
-  pub left_high : i + 1 < length s → 16 ≤ digit_of (get_or s (i + 1) 0) → is_hex (drop i s) ≡ false
-  left_high h b = rw (left_two h, le-ltb (digit_of (get_or s (i + 1) 0)) 16 b) (and-false (is_digit (get_or s i 0)))
-
-  pub left_more : i + 1 < length s → digit_of (get_or s i 0) < 16 → digit_of (get_or s (i + 1) 0) < 16 → is_hex (drop i s) ≡ is_hex (drop (i + 2) s)
-  left_more h a b = rw (left_two h, lt-ltb (digit_of (get_or s i 0)) 16 a, lt-ltb (digit_of (get_or s (i + 1) 0)) 16 b)
 
 -- two digits to a byte
 pub pair_length : (b : ℕ) → length (hex_pair b) ≡ 2

@@ -1,12 +1,15 @@
 -- Laws of answers that stand in bytes: one after the other, each with its line.
 use mathlib.Core.Path.{◌≡◌, refl, sym, ap, ◌∙◌, subst}
+use mathlib.Core.Bool.{Bool, true, false}
 use mathlib.Core.List.{List, [], ◌∷◌, ◌++◌, append_assoc, append-nil}
 use Prim.Native.Nat.{ℕ, zero, suc, ◌+◌, ◌*◌, ◌-◌, ◌^◌, ◌%◌, ◌≤◌, ◌<◌}
-use native.Mathlib.Nat.{add-suc}
 use native.Mathlib.Omega.{arith}
-use lib.ListN.{length, take, drop, set, length-append, length-take, length-drop, drop_of_length-le}
-use lib.Seq.{sets, take_at, drop_at, get_or-drop, drop-drop}
+use lib.Dec.{eqb}
+use lib.ListN.{length, take, drop, set, length-append, length-take, length-drop}
+use lib.Seq.{sets, take_at, drop_at}
+use borrow.Author.Tests.{eqb-true}
 use Rattle.laws.specs.Parts.{pieces}
+use Rattle.laws.proofs.Tests.{never, was_true, was_false}
 use Rattle.laws.specs.Stores.{Wrote}
 use Rattle.laws.proofs.Stores.{rest_part, wrote_none, wrote_sets, wrote_append}
 use Rattle.field.specs.Field.{field, little_endian}
@@ -85,73 +88,74 @@ first_answer s h whole =
       others = sym behind;
     }
 
--- Answers at a place in bytes
+-- Answers that are still to come
 
-field_drop : (w : ℕ) (s : List ℕ) (k at : ℕ) → field w (drop k s) at ≡ field w s (k + at)
-unfolding field
-field_drop zero s k at = refl
-field_drop (suc w) s k at = rw (field_drop w s k (suc at), add-suc k at, get_or-drop k s at 0)
-
--- what is written so far of the lines of all answers, where those from i on are still to come
-pub record Rendered (bytes d e : List ℕ) (end i : ℕ) : Type 0 where
+-- what is written so far of the lines of all answers, where those that stand in rest are still to come
+pub record Rendered (bytes d e : List ℕ) (end : ℕ) (rest : List ℕ) : Type 0 where
   pub text : List ℕ
   pub wrote : Wrote d e 0 end text
-  pub whole : Whole (drop i bytes)
-  pub all : answer_lines bytes ≡ text ++ answer_lines (drop i bytes)
+  pub whole : Whole rest
+  pub all : answer_lines bytes ≡ text ++ answer_lines rest
 
-pub rendered_none : (bytes d : List ℕ) → Whole bytes → Rendered bytes d d 0 0
+pub rendered_none : (bytes d : List ℕ) → Whole bytes → Rendered bytes d d 0 bytes
 rendered_none bytes d h = record { text = []; wrote = wrote_none d 0; whole = h; all = refl }
 
-pub rendered_all : (bytes d e : List ℕ) (end i : ℕ) → length bytes ≤ i → Rendered bytes d e end i → Wrote d e 0 end (answer_lines bytes)
+pub rendered_all : {bytes d e rest : List ℕ} {end : ℕ} → rest ≡ [] → Rendered bytes d e end rest → Wrote d e 0 end (answer_lines bytes)
 unfolding answer_lines pieces read_from
-rendered_all bytes d e end i h r =
-    let none : drop i bytes ≡ [] = drop_of_length-le bytes h in
-    subst (Wrote d e 0 end) (sym (r.all ∙ ap (λ (s : List ℕ). r.text ++ answer_lines s) none ∙ append-nil r.text)) r.wrote
+rendered_all {bytes} {d} {e} {rest} {end} h r =
+    subst (Wrote d e 0 end) (sym (r.all ∙ ap (λ (s : List ℕ). r.text ++ answer_lines s) h ∙ append-nil r.text)) r.wrote
 
--- the answer at i, whose byte count is n
-module _ (bytes : List ℕ) (i n : ℕ) (inside : i < length bytes) (whole : Whole (drop i bytes)) (count : n ≡ field 4 bytes (i + 4)) where
-  pub at_i : First (drop i bytes)
-  at_i = first_answer (drop i bytes) (omega (arith, length-drop i bytes)) whole
+-- whether any are
+module _ {t : Bool} (rest : List ℕ) (is : t ≡ eqb (length rest) 0) where
+  pub some_to_come : t ≡ false → 0 < length rest
+  some_to_come e = of rest (was_false is e)
+    where
+      of : (s : List ℕ) → eqb (length s) 0 ≡ false → 0 < length s
+      of [] f = never f
+      of (b ∷ s) f = omega arith
 
-  counts : n ≡ field 4 (drop i bytes) 4
-  counts = count ∙ sym (field_drop 4 bytes i 4)
+  pub none_to_come : t ≡ true → rest ≡ []
+  none_to_come e = of rest (was_true is e)
+    where
+      of : (s : List ℕ) → eqb (length s) 0 ≡ true → s ≡ []
+      of [] f = refl
+      of (b ∷ s) f = absurd (omega (arith, eqb-true (length (b ∷ s)) 0 f))
 
-  pub next_fits : i + 8 + n ≤ length bytes
-  next_fits = omega (arith, length-drop i bytes, at_i.fits, counts)
+-- the first answer of those, whose byte count is n
+module _ (rest : List ℕ) (n : ℕ) (inside : 0 < length rest) (whole : Whole rest) (count : n ≡ field 4 rest 4) where
+  pub next_answer : First rest
+  next_answer = first_answer rest inside whole
 
-  pub next_here : (e : ℕ) → e ≡ i + 8 + n → take (e - i) (drop i bytes) ≡ rewritten (at_i.answer ∷ [])
-  next_here e h =
-      let size : e - i ≡ 8 + field 4 (drop i bytes) 4 = omega (arith, counts) in
-      ap (λ (k : ℕ). take k (drop i bytes)) size ∙ at_i.here
+  pub next_fits : 8 + n ≤ length rest
+  next_fits = omega (arith, next_answer.fits, count)
 
-  pub next_length : (e : ℕ) → e ≡ i + 8 + n → length (take (e - i) (drop i bytes)) ≡ 8 + n
-  next_length e h = simp (length-take, length-drop) (omega (arith, next_fits))
+  pub next_here : take (8 + n) rest ≡ rewritten (next_answer.answer ∷ [])
+  next_here = ap (λ (k : ℕ). take (8 + k) rest) count ∙ next_answer.here
 
-  line_length : length (answer_line at_i.answer) ≡ 2 * n + 11
+  line_length : length (answer_line next_answer.answer) ≡ 2 * n + 11
   unfolding answer_line
   line_length =
-      let w = at_i.answer in
+      let w = next_answer.answer in
       let t = little_endian 4 w.ticket in
       length-append (hex_text (0x80 ∷ (t ++ w.response))) (10 ∷ [])
-      ∙ (omega (arith, length_text (0x80 ∷ (t ++ w.response)), length-append t w.response, length_little_endian 4 w.ticket, at_i.count, counts))
+      ∙ (omega (arith, length_text (0x80 ∷ (t ++ w.response)), length-append t w.response, length_little_endian 4 w.ticket, next_answer.count, count))
 
-  pub rendered_more : {d e e' : List ℕ} {end end' : ℕ} → Rendered bytes d e end i → Wrote e e' end end' (answer_line at_i.answer) → Rendered bytes d e' end' (i + 8 + n)
+  pub rendered_more : {bytes d e e' : List ℕ} {end end' : ℕ} → Rendered bytes d e end rest → Wrote e e' end end' (answer_line next_answer.answer) → Rendered bytes d e' end' (drop (8 + n) rest)
   unfolding answer_lines pieces
   rendered_more r w =
-      let on : drop (8 + field 4 (drop i bytes) 4) (drop i bytes) ≡ drop (i + 8 + n) bytes =
-      drop-drop (8 + field 4 (drop i bytes) 4) i bytes ∙ ap (λ (k : ℕ). drop k bytes) (let same : i + (8 + field 4 (drop i bytes) 4) ≡ i + 8 + n = omega (arith, counts) in same) in
+      let on : drop (8 + field 4 rest 4) rest ≡ drop (8 + n) rest = ap (λ (k : ℕ). drop (8 + k) rest) (sym count) in
       record {
-        text = r.text ++ answer_line at_i.answer;
-        wrote = wrote_append r.text (answer_line at_i.answer) r.wrote w;
-        whole = subst Whole on at_i.others;
+        text = r.text ++ answer_line next_answer.answer;
+        wrote = wrote_append r.text (answer_line next_answer.answer) r.wrote w;
+        whole = subst Whole on next_answer.others;
         all = r.all
-            ∙ ap (λ (l : List Written). r.text ++ pieces answer_line l) at_i.reads
-            ∙ sym (append_assoc r.text (answer_line at_i.answer) (pieces answer_line (answers_in (drop (8 + field 4 (drop i bytes) 4) (drop i bytes)))))
-            ∙ ap (λ (s : List ℕ). r.text ++ answer_line at_i.answer ++ answer_lines s) on;
+            ∙ ap (λ (l : List Written). r.text ++ pieces answer_line l) next_answer.reads
+            ∙ sym (append_assoc r.text (answer_line next_answer.answer) (pieces answer_line (answers_in (drop (8 + field 4 rest 4) rest))))
+            ∙ ap (λ (s : List ℕ). r.text ++ answer_line next_answer.answer ++ answer_lines s) on;
       }
 
-  pub next_short : {e e' : List ℕ} {end end' : ℕ} → end ≤ 2 * i → Wrote e e' end end' (answer_line at_i.answer) → end' ≤ 2 * (i + 8 + n)
-  next_short h w = omega (arith, w.next, line_length)
+  pub next_short : {e e' : List ℕ} {end end' m : ℕ} → end + 2 * length rest ≤ m → Wrote e e' end end' (answer_line next_answer.answer) → end' + 2 * length (drop (8 + n) rest) ≤ m
+  next_short h w = omega (arith, w.next, line_length, length-drop (8 + n) rest, next_fits)
 
 -- One line, written as 80, the ticket's bytes, the response's and byte 10
 

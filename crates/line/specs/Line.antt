@@ -1,13 +1,11 @@
 -- What a line of the log stands for (document 01, "The log").
-use Rattle.std.specs.Prelude.{ℕ, cond, List, [], eqb, length, get_or, take, drop}
+use Rattle.std.specs.Prelude.{ℕ, cond, List, [], eqb, length, get_or, take, drop, Option, None, Some}
 use Rattle.laws.specs.Tests.{within}
 use Rattle.field.specs.Field.{field}
 use Rattle.model.specs.Steps.{Act, command, finish, drained}
 use Rattle.line.specs.Hex.{is_hex, hex_bytes}
 use Rattle.line.specs.declared.Frame.{Frame}
 use Rattle.line.specs.declared.Frame.TheVariants.{Command, Finish, Drained}
-use Rattle.line.specs.declared.Decoded.{Decoded}
-use Rattle.line.specs.declared.Decoded.TheVariants.{Framed, NoFrame}
 
 -- a step, or the number of a refusal
 pub data Line : Type 0 where
@@ -50,9 +48,9 @@ framed (Finish stream queue resource flags timestamp) buffer = finish stream que
 framed (Drained stream) buffer = drained stream
 
 -- a frame, or refusal 7
-abbrev pub decoded : Decoded → List ℕ → Line
-decoded (Framed f) buffer = step_line (framed f buffer)
-decoded NoFrame buffer = refused_line 7
+abbrev pub decoded : Option Frame → List ℕ → Line
+decoded (Some f) buffer = step_line (framed f buffer)
+decoded None buffer = refused_line 7
 
 -- how many bytes of the buffer are a command's
 abbrev pub count_in : Frame → ℕ
@@ -60,9 +58,9 @@ count_in (Command ticket count) = count
 count_in (Finish stream queue resource flags timestamp) = 0
 count_in (Drained stream) = 0
 
-abbrev pub count_of : Decoded → ℕ
-count_of (Framed f) = count_in f
-count_of NoFrame = 0
+abbrev pub count_of : Option Frame → ℕ
+count_of (Some f) = count_in f
+count_of None = 0
 
 -- the bytes that a line brings into the buffer: those of its command
 abbrev pub command_bytes : Line → List ℕ

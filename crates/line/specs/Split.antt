@@ -1,6 +1,5 @@
 -- The lines of a log, and what is kept of a line that is being read.
-use Rattle.std.specs.Prelude.{ℕ, suc, Bool, cond, List, [], ◌∷◌, ◌++◌, eqb, ltb, length, take}
-use Rattle.line.specs.declared.Gathered.{Gathered}
+use Rattle.std.specs.Prelude.{ℕ, suc, Bool, true, false, cond, List, [], ◌∷◌, ◌++◌, eqb, ltb, length, take, Option, None, Some}
 
 -- a byte before the first line of what follows it
 abbrev pub prefixed : ℕ → List (List ℕ) → List (List ℕ)
@@ -42,6 +41,7 @@ split line piece =
     let n = line_end piece in
     record { ended = ltb n (length piece); used = cond (ltb n (length piece)) (suc n) n; line = kept (line ++ take n piece) }
 
--- what `gather` answers, with the bytes that it leaves
-abbrev pub gathered : Gathered → List ℕ → Split
-gathered r held = record { ended = r.ended; used = r.used; line = take r.have held }
+-- what `gather` answers of a piece, with the line that it leaves: the bytes used where a line ended, or nothing where all of the piece was kept
+abbrev pub gathered : Option ℕ → List ℕ → List ℕ → Split
+gathered (Some used) piece line = record { ended = true; used = used; line = line }
+gathered None piece line = record { ended = false; used = length piece; line = line }

@@ -4,7 +4,7 @@ ghost use Rattle.std.proofs.lemmas.List.Edits.{sets};
 ghost use Rattle.line.specs.Hex.{is_hex, hex_bytes};
 ghost use Rattle.line.specs.Line.{command_in, finish_in, drained_in, line_of, decoded, count_of, command_bytes};
 
-use crate::{Decoded, Frame, hex};
+use crate::{Frame, hex};
 
 // The first byte of each kind of frame.
 const COMMAND: u8 = 0x00;
@@ -22,79 +22,78 @@ const FINISH_DIGITS: usize = 50;
 
 const DRAINED_DIGITS: usize = 10;
 
-// What a line stands for. A command's bytes are stored from the start of `frame`, and nothing else is.
-pub fn decode_line(line: &[u8], frame: &mut [u8]) -> Decoded
+// The frame that a line stands for, if it is one; a line that is none is refused with 7. A command's bytes are stored from the start of `frame`, and nothing else is.
+pub fn decode_line(line: &[u8], frame: &mut [u8]) -> Option<Frame>
     requires { 4184 ≤ length frame.old }
     ensures fits { count_of result ≤ 4184 }
     ensures means { decoded result frame.new ≡ line_of line.now }
     ensures stored { frame.new ≡ sets frame.old 0 (command_bytes (line_of line.now)) }
 {
     if !hex::is_hex(line) {
-        return Decoded::NoFrame;
+        return None;
     }
     if line.len() < SHORTEST {
-        return Decoded::NoFrame;
+        return None;
     }
-    let kind = hex::byte_at(line, 0);
-    match kind {
+    match hex::byte_at(line, 0) {
         COMMAND => command_in(line, frame),
         FINISH => finish_in(line),
         DRAINED => drained_in(line),
-        _ => Decoded::NoFrame,
+        _ => None,
     }
 }
 
 // 00 ticket command.
-fn command_in(line: &[u8], frame: &mut [u8]) -> Decoded
+fn command_in(line: &[u8], frame: &mut [u8]) -> Option<Frame>
     requires { (is_hex line.now ≡ true) × (10 ≤ length line.now) × (4184 ≤ length frame.old) }
     ensures fits { count_of result ≤ 4184 }
     ensures means { decoded result frame.new ≡ command_in (hex_bytes line.now) }
     ensures stored { frame.new ≡ sets frame.old 0 (command_bytes (command_in (hex_bytes line.now))) }
 {
     if LONGEST < line.len() {
-        return Decoded::NoFrame;
+        return None;
     }
     let mut head = [0u8; 5];
     hex::unhex(&line[0..10], &mut head);
     hex::unhex(&line[10..], frame);
-    Decoded::Framed(Frame::Command {
-        ticket: field::read_u32(&head, 1),
+    Some(Frame::Command {
+        ticket: field::read::<u32>(&head, 1),
         count: line.len() / 2 - 5,
     })
 }
 
 // 01 stream, queue type, resource, flags, timestamp.
-fn finish_in(line: &[u8]) -> Decoded
+fn finish_in(line: &[u8]) -> Option<Frame>
     requires { is_hex line.now ≡ true }
     ensures fits { count_of result ≤ 4184 }
     ensures means { (buffer : List ℕ) → decoded result buffer ≡ finish_in (hex_bytes line.now) }
 {
     if line.len() != FINISH_DIGITS {
-        return Decoded::NoFrame;
+        return None;
     }
     let mut bytes = [0u8; 25];
     hex::unhex(line, &mut bytes);
-    Decoded::Framed(Frame::Finish {
-        stream: field::read_u32(&bytes, 1),
-        queue: field::read_u32(&bytes, 5),
-        resource: field::read_u32(&bytes, 9),
-        flags: field::read_u32(&bytes, 13),
-        timestamp: field::read_u64(&bytes, 17),
+    Some(Frame::Finish {
+        stream: field::read::<u32>(&bytes, 1),
+        queue: field::read::<u32>(&bytes, 5),
+        resource: field::read::<u32>(&bytes, 9),
+        flags: field::read::<u32>(&bytes, 13),
+        timestamp: field::read::<u64>(&bytes, 17),
     })
 }
 
 // 02 stream.
-fn drained_in(line: &[u8]) -> Decoded
+fn drained_in(line: &[u8]) -> Option<Frame>
     requires { is_hex line.now ≡ true }
     ensures fits { count_of result ≤ 4184 }
     ensures means { (buffer : List ℕ) → decoded result buffer ≡ drained_in (hex_bytes line.now) }
 {
     if line.len() != DRAINED_DIGITS {
-        return Decoded::NoFrame;
+        return None;
     }
     let mut bytes = [0u8; 5];
     hex::unhex(line, &mut bytes);
-    Decoded::Framed(Frame::Drained {
-        stream: field::read_u32(&bytes, 1),
+    Some(Frame::Drained {
+        stream: field::read::<u32>(&bytes, 1),
     })
 }

@@ -2,26 +2,7 @@
 ghost use Rattle.std.specs.Prelude.{◌≡◌, true, ◌+◌, ◌*◌, ◌<◌, ◌≤◌, length, get_or};
 ghost use Rattle.std.proofs.lemmas.List.Edits.{sets};
 ghost use Rattle.laws.specs.Stores.{Wrote};
-ghost use Rattle.line.specs.Hex.{digit_of, is_hex, hex_bytes, lower_digit, hex_pair, hex_text};
-
-// The number of each digit, sixteen bytes to a line; 16 for a byte that is none.
-const DIGITS: [u8; 256] = *b"\
-    \x10\x10\x10\x10\x10\x10\x10\x10\x10\x10\x10\x10\x10\x10\x10\x10\
-    \x10\x10\x10\x10\x10\x10\x10\x10\x10\x10\x10\x10\x10\x10\x10\x10\
-    \x10\x10\x10\x10\x10\x10\x10\x10\x10\x10\x10\x10\x10\x10\x10\x10\
-    \x00\x01\x02\x03\x04\x05\x06\x07\x08\x09\x10\x10\x10\x10\x10\x10\
-    \x10\x0a\x0b\x0c\x0d\x0e\x0f\x10\x10\x10\x10\x10\x10\x10\x10\x10\
-    \x10\x10\x10\x10\x10\x10\x10\x10\x10\x10\x10\x10\x10\x10\x10\x10\
-    \x10\x0a\x0b\x0c\x0d\x0e\x0f\x10\x10\x10\x10\x10\x10\x10\x10\x10\
-    \x10\x10\x10\x10\x10\x10\x10\x10\x10\x10\x10\x10\x10\x10\x10\x10\
-    \x10\x10\x10\x10\x10\x10\x10\x10\x10\x10\x10\x10\x10\x10\x10\x10\
-    \x10\x10\x10\x10\x10\x10\x10\x10\x10\x10\x10\x10\x10\x10\x10\x10\
-    \x10\x10\x10\x10\x10\x10\x10\x10\x10\x10\x10\x10\x10\x10\x10\x10\
-    \x10\x10\x10\x10\x10\x10\x10\x10\x10\x10\x10\x10\x10\x10\x10\x10\
-    \x10\x10\x10\x10\x10\x10\x10\x10\x10\x10\x10\x10\x10\x10\x10\x10\
-    \x10\x10\x10\x10\x10\x10\x10\x10\x10\x10\x10\x10\x10\x10\x10\x10\
-    \x10\x10\x10\x10\x10\x10\x10\x10\x10\x10\x10\x10\x10\x10\x10\x10\
-    \x10\x10\x10\x10\x10\x10\x10\x10\x10\x10\x10\x10\x10\x10\x10\x10";
+ghost use Rattle.line.specs.Hex.{digit_of, is_digit, is_hex, hex_bytes, lower_digit, hex_pair, hex_text};
 
 // The digit of each number.
 const LOWER: [u8; 16] = *b"0123456789abcdef";
@@ -30,20 +11,7 @@ const LOWER: [u8; 16] = *b"0123456789abcdef";
 pub fn is_hex(line: &[u8]) -> bool
     ensures { result ≡ is_hex line.now }
 {
-    let mut i = 0;
-    while i < line.len() {
-        if line.len() - i == 1 {
-            return false;
-        }
-        if 16 <= digit(line[i]) {
-            return false;
-        }
-        if 16 <= digit(line[i + 1]) {
-            return false;
-        }
-        i += 2;
-    }
-    true
+    line.len() % 2 == 0 && line.iter().all(|b| b.is_ascii_hexdigit())
 }
 
 // Stores the bytes that a line's digits stand for from the start of `out`.
@@ -51,11 +19,8 @@ pub fn unhex(line: &[u8], out: &mut [u8])
     requires { (is_hex line.now ≡ true) × (length line.now ≤ 2 * length out.old) }
     ensures { out.new ≡ sets out.old 0 (hex_bytes line.now) }
 {
-    let n = line.len() / 2;
-    let mut i = 0;
-    while i < n {
+    for i in 0..line.len() / 2 {
         out[i] = byte_at(line, i);
-        i += 1;
     }
 }
 
@@ -67,12 +32,16 @@ pub fn byte_at(line: &[u8], i: usize) -> u8
     16 * digit(line[2 * i]) + digit(line[2 * i + 1])
 }
 
-// The number of a digit; 16 for any other byte.
+// The number of a digit.
 fn digit(b: u8) -> u8
+    requires { is_digit b ≡ true }
     ensures { result ≡ digit_of b }
 {
-    let i = b as usize;
-    DIGITS[i]
+    match b {
+        b'0'..=b'9' => b - b'0',
+        b'A'..=b'F' => b - b'A' + 10,
+        _ => b - b'a' + 10,
+    }
 }
 
 // Writes the text of bytes; returns the place after it.
@@ -80,14 +49,10 @@ pub fn put_hex(bytes: &[u8], out: &mut [u8], at: usize) -> usize
     requires { at + 2 * length bytes.now ≤ length out.old }
     ensures { Wrote out.old out.new at result (hex_text bytes.now) }
 {
-    let mut end = at;
-    let mut i = 0;
-    while i < bytes.len() {
-        put_byte(bytes[i], out, end);
-        end += 2;
-        i += 1;
+    for (i, b) in bytes.iter().enumerate() {
+        put_byte(*b, out, at + 2 * i);
     }
-    end
+    at + 2 * bytes.len()
 }
 
 // Writes the two digits of a byte.
@@ -104,6 +69,5 @@ fn lower(n: u8) -> u8
     requires { n < 16 }
     ensures { result ≡ lower_digit n }
 {
-    let i = n as usize;
-    LOWER[i]
+    LOWER[n as usize]
 }

@@ -7,7 +7,7 @@ mod splitting;
 mod writing;
 
 pub use decoding::decode_line;
-pub use splitting::{LINE_ROOM, at_most, gather, line_end};
+pub use splitting::{KeptLine, LINE_ROOM, first_line};
 pub use writing::{put_outcome, put_refusal};
 
 // Every line ends with this byte, read or written.
@@ -30,19 +30,4 @@ pub enum Frame {
     Drained {
         stream: u32,
     },
-}
-
-// What a line stands for: a frame, or no frame, which is refusal 7.
-#[derive(Clone, Copy)]
-pub enum Decoded {
-    Framed(Frame),
-    NoFrame,
-}
-
-// What was taken of a piece: whether a line ended, how many bytes were used, and how many of the line are kept.
-#[derive(Clone, Copy)]
-pub struct Gathered {
-    pub ended: bool,
-    pub used: usize,
-    pub have: usize,
 }

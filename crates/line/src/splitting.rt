@@ -1,74 +1,106 @@
 // Lines out of what is read in pieces, with room for one line.
-ghost use Rattle.std.specs.Prelude.{◌≡◌, ◌-◌, ◌≤◌, min, length, take, drop};
-ghost use Rattle.laws.specs.Stores.{Wrote};
-ghost use Rattle.line.specs.Split.{line_room, line_end, split, gathered};
+ghost use Rattle.std.specs.Prelude.{◌≡◌, ◌≤◌, ◌++◌, List, ℕ, suc, [], length, take, drop};
+ghost use Rattle.laws.specs.Lists.{is_empty};
+ghost use Rattle.line.specs.Split.{line_room, kept, line_end, split, gathered};
 
-use crate::{Gathered, NEWLINE};
+use crate::NEWLINE;
+use std::marker::Model;
 
 // The bytes that are kept of a line: the digits of the longest frame, and one more, which shows that the line is over-long.
 pub const LINE_ROOM: usize = 8379;
 
-// Takes the bytes of a piece up to its first byte 10, or all, behind the `have` bytes of `held` that are kept of the line.
-pub fn gather(held: &mut [u8], have: usize, piece: &[u8]) -> Gathered
-    requires { (have ≤ line_room) × (line_room ≤ length held.old) }
-    ensures fits { result.have ≤ line_room }
-    ensures means { gathered result held.new ≡ split (take have held.old) piece.now }
-    ensures rest { drop result.have held.new ≡ drop result.have held.old }
-{
-    let n = line_end(piece);
-    let end = append(held, have, &piece[..n]);
-    if n < piece.len() {
-        return Gathered {
-            ended: true,
-            used: n + 1,
-            have: end,
-        };
-    }
-    Gathered {
-        ended: false,
-        used: n,
-        have: end,
-    }
+// What is kept of a line that has not ended, in fixed memory: the first `have` bytes of `held`.
+#[derive(Drop)]
+pub struct KeptLine {
+    held: [u8; LINE_ROOM],
+    have: usize,
 }
 
-// The place of the first byte 10, or the length where there is none.
-pub fn line_end(piece: &[u8]) -> usize
-    ensures { result ≡ line_end piece.now }
-{
-    let mut i = 0;
-    while i < piece.len() {
-        if piece[i] == NEWLINE {
-            return i;
+// Clauses see the bytes that are kept.
+impl Model for KeptLine {
+    ghost Value = { List ℕ };
+
+    ghost view = { λ k. take k.have k.held };
+
+    ghost invariant = { λ k. k.have ≤ line_room };
+}
+
+impl KeptLine {
+    // No byte of a line.
+    pub fn new() -> KeptLine
+        ensures { result ≡ [] }
+    {
+        KeptLine {
+            held: [0; LINE_ROOM],
+            have: 0,
         }
-        i += 1;
     }
-    i
+
+    // What is kept of a line's bytes.
+    pub fn from_bytes(line: &[u8]) -> KeptLine
+        ensures { result ≡ kept line.now }
+    {
+        let mut begun = KeptLine::new();
+        begun.append(line);
+        begun
+    }
+
+    // The bytes that are kept.
+    pub fn bytes(&self) -> &[u8]
+        ensures fits { length result.now ≤ line_room }
+        ensures value { result.now ≡ self.now }
+    {
+        &self.held[..self.have]
+    }
+
+    pub fn is_empty(&self) -> bool
+        ensures { result ≡ is_empty self.now }
+    {
+        self.have == 0
+    }
+
+    // The next line begins.
+    pub fn clear(&mut self)
+        ensures { self.new ≡ [] }
+    {
+        self.have = 0;
+    }
+
+    // Takes the bytes of a piece up to its first byte 10, or all, behind those that are kept of the line. Where the line ended, the bytes that were used
+    // of the piece; else all were.
+    pub fn gather(&mut self, piece: &[u8]) -> Option<usize>
+        ensures { gathered result piece.now self.new ≡ split self.old piece.now }
+    {
+        let n = line_end(piece);
+        self.append(&piece[..n]);
+        if n < piece.len() { Some(n + 1) } else { None }
+    }
+
+    // Keeps text behind the bytes that are kept, as far as it is kept.
+    fn append(&mut self, text: &[u8])
+        ensures { self.new ≡ kept (self.old ++ text.now) }
+    {
+        let end = LINE_ROOM.min(self.have + text.len());
+        self.held[self.have..end].copy_from_slice(&text[..end - self.have]);
+        self.have = end;
+    }
 }
 
-// A number, or the most where it is above that: no more is read of a buffer than it has.
-pub fn at_most(n: usize, most: usize) -> usize
-    ensures { result ≡ min n most }
+// The first line of a text, without its byte 10, and what follows that.
+pub fn first_line(text: &[u8]) -> (&[u8], &[u8])
+    ensures line { result.0.now ≡ take (line_end text.now) text.now }
+    ensures rest { result.1.now ≡ drop (suc (line_end text.now)) text.now }
 {
-    if most < n {
-        return most;
-    }
-    n
+    let n = line_end(text);
+    (&text[..n], &text[text.len().min(n + 1)..])
 }
 
-// Stores text behind the `have` bytes that are kept, as far as it is kept; returns the place after it.
-fn append(held: &mut [u8], have: usize, text: &[u8]) -> usize
-    requires { (have ≤ line_room) × (line_room ≤ length held.old) }
-    ensures { Wrote held.old held.new have result (take (line_room - have) text.now) }
+// Where the first line of a text ends: the place of its first byte 10, or the end of the text.
+fn line_end(text: &[u8]) -> usize
+    ensures within { result ≤ length text.now }
+    ensures value { result ≡ line_end text.now }
 {
-    let mut end = have;
-    let mut i = 0;
-    while i < text.len() {
-        if end == LINE_ROOM {
-            return end;
-        }
-        held[end] = text[i];
-        end += 1;
-        i += 1;
-    }
-    end
+    text.iter()
+        .position(|b| *b == NEWLINE)
+        .unwrap_or(text.len())
 }

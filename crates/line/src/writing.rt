@@ -30,11 +30,11 @@ fn put_answers(answers: &[u8], out: &mut [u8]) -> usize
     ensures wrote { Wrote out.old out.new 0 result (answer_lines answers.now) }
 {
     let mut end = 0;
-    let mut i = 0;
-    while i < answers.len() {
-        let next = i + 8 + (field::read_u32(answers, i + 4) as usize);
-        end = put_answer(&answers[i..next], out, end);
-        i = next;
+    let mut rest = answers;
+    while !rest.is_empty() {
+        let (answer, others) = rest.split_at(8 + field::read::<u32>(rest, 4) as usize);
+        end = put_answer(answer, out, end);
+        rest = others;
     }
     end
 }

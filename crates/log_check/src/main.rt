@@ -2,141 +2,73 @@
 // reads is in `checker`.
 #![tactic(auto)]
 
-use checker::{CheckState, Fault, LogVerdict};
-use std::io;
+use checker::{Checker, WrongLine};
 use std::io::{Read, Write};
+use std::{fmt, io};
 
-// What is known between two reads: the bytes that are kept of a line that has not ended, and how the check stands.
+// Why no verdict was given.
 #[derive(Clone, Copy)]
-struct Position {
-    have: usize,
-    state: CheckState,
+enum Failure {
+    Unread,
+    Unwritten,
 }
 
-// How far the log was read: there may be more, or the verdict stands, since the log has ended or a line was wrong; or a read failed.
-#[derive(Clone, Copy)]
-enum Progress {
-    More(Position),
-    Enough(Position),
-    Unread,
+impl fmt::Display for Failure {
+    fn fmt<W: fmt::Write>(&self, f: &mut fmt::Formatter<W>) -> fmt::Result {
+        f.write_str(match self {
+            Failure::Unread => "the log cannot be read to its end",
+            Failure::Unwritten => "the verdict cannot be written",
+        })
+    }
 }
 
 // Offers what was read until it is used up.
-fn take_all(
-    table: &mut [u32],
-    text: &mut [u8; 2112],
-    held: &mut [u8; 8379],
-    from: Position,
-    piece: &[u8],
-) -> Position {
-    let mut have = from.have;
-    let mut state = from.state;
-    let mut at = 0;
-    while at < piece.len() {
-        let taken = checker::take_piece(table, text, held, have, state, &piece[at..]);
-        let used = taken.used;
-        have = taken.have;
-        state = taken.state;
-        at += used;
-    }
-    Position {
-        have: have,
-        state: state,
+fn take_all(check: &mut Checker, piece: &[u8]) {
+    let mut rest = piece;
+    while !rest.is_empty() {
+        let used = check.take_piece(rest);
+        rest = &rest[used..];
     }
 }
 
-// Whether more is to be read: the check ends at the first wrong line.
-fn going_on(position: Position) -> Progress {
-    let state = position.state;
-    match state {
-        CheckState::RightSoFar {
-            line: _,
-            at: _,
-            end: _,
-        } => Progress::More(position),
-        CheckState::StoppedAt { fault: _, line: _ } => Progress::Enough(position),
-    }
-}
-
-// Reads once, and checks what came.
-fn read_once(
-    input: &mut impl Read,
-    table: &mut [u32],
-    text: &mut [u8; 2112],
-    held: &mut [u8; 8379],
-    position: Position,
-) -> Progress {
+// Reads until the log ends or a line was wrong, and checks what came. A proved loop has to end, and nothing says that the input does: so the reads are counted,
+// up to a number that no run reaches.
+fn read_all(input: &mut impl Read, check: &mut Checker) -> Result<(), Failure> {
     let mut piece = [0u8; 4096];
-    let Ok(n) = input.read(&mut piece) else {
-        return Progress::Unread;
-    };
-    if n == 0 {
-        return Progress::Enough(position);
+    for _ in 0..u64::MAX {
+        let n = input.read(&mut piece).map_err(|_| Failure::Unread)?;
+        if n == 0 {
+            return Ok(());
+        }
+        take_all(check, &piece[..n]);
+        if check.has_stopped() {
+            return Ok(());
+        }
     }
-    going_on(take_all(table, text, held, position, &piece[..n]))
-}
-
-// A proved loop has to end, and nothing says that the input does. So the loop counts its turns down, from a number that no run uses up.
-fn read_all(
-    input: &mut impl Read,
-    table: &mut [u32],
-    text: &mut [u8; 2112],
-    held: &mut [u8; 8379],
-) -> Progress {
-    let mut turns = u64::MAX;
-    let mut position = Position {
-        have: 0,
-        state: checker::opening(),
-    };
-    while turns > 0 {
-        let progress = read_once(input, table, text, held, position);
-        let Progress::More(next) = progress else {
-            return progress;
-        };
-        position = next;
-        turns -= 1;
-    }
-    Progress::Unread
-}
-
-// Writes the name of a fault, and byte 10.
-fn write_fault(output: &mut impl Write, fault: Fault) -> io::Result<()> {
-    match fault {
-        Fault::MissingAnswer => output.write_all(b"missing\n"),
-        Fault::ExtraAnswer => output.write_all(b"extra\n"),
-        Fault::DifferentAnswer => output.write_all(b"different\n"),
-        Fault::LineRefused => output.write_all(b"refused 7\n"),
-    }
+    Err(Failure::Unread)
 }
 
 // Writes the verdict in one line.
-fn write_verdict(output: &mut impl Write, verdict: LogVerdict) -> io::Result<()> {
-    let LogVerdict::WrongLine { fault, line } = verdict else {
-        return output.write_all(b"accepted\n");
-    };
-    write!(output, "line {line}: ")?;
-    write_fault(output, fault)
+fn write_verdict(output: &mut impl Write, verdict: Result<(), WrongLine>) -> io::Result<()> {
+    match verdict {
+        Ok(()) => writeln!(output, "accepted"),
+        Err(wrong) => writeln!(output, "{wrong}"),
+    }
+}
+
+// Checks a log, and writes the verdict.
+fn run_check(input: &mut impl Read, output: &mut impl Write) -> Result<(), Failure> {
+    let mut table = [0u32; table::TABLE_WORDS];
+    let _ = table::fresh(&mut table);
+    let mut check = Checker::on_table(&mut table);
+    read_all(input, &mut check)?;
+    write_verdict(output, check.verdict()).map_err(|_| Failure::Unwritten)
 }
 
 fn main(rt: HostRuntime) {
-    let mut table = [0u32; table::TABLE_WORDS];
-    table::fresh(&mut table);
-    let mut text = [0u8; 2112];
-    let mut held = [0u8; 8379];
-    let progress = read_all(&mut rt.stdin(), &mut table, &mut text, &mut held);
-    // Where even a message cannot be written, there is nobody to tell.
-    let Progress::Enough(position) = progress else {
-        let _ = rt
-            .stderr()
-            .write_all(b"log_check: the log cannot be read to its end\n");
-        return;
-    };
-    let have = position.have;
-    let state = position.state;
-    let verdict = checker::last_verdict(&mut table, &mut text, &held, have, state);
-    if write_verdict(&mut rt.stdout(), verdict).is_err() {
-        let _ = rt
-            .stderr()
-            .write_all(b"log_check: the verdict cannot be written\n");
+    let mut output = rt.stdout();
+    if let Err(failure) = run_check(&mut rt.stdin(), &mut output) {
+        // Where even this cannot be said, there is nobody to tell.
+        let _ = writeln!(rt.stderr(), "log_check: {failure}");
     }
 }

@@ -3,7 +3,7 @@ use Prim.Native.Nat.{ℕ, suc, ◌+◌, ◌<◌, ◌≤◌}
 use native.Mathlib.Omega.{arith}
 use mathlib.Core.Path.{◌≡◌, refl, sym, ap, ap₂, ◌∙◌, subst}
 use mathlib.Core.Bool.{Bool, true, false, cond, not, ◌&&◌, ◌||◌}
-use mathlib.Core.Option.{Option, none, some}
+use Rattle.std.specs.Prelude.{Option, None, Some}
 use mathlib.Core.List.{List, [], ◌∷◌, ◌++◌, map, tail-eq_of_cons-eq}
 use lib.ListN.{length, length-append, length-map}
 use lib.Dec.{eqb, ltb}
@@ -58,8 +58,8 @@ pub sane_record : (n : ℕ) (d : Device) → well_formed d ≡ true → Sane (re
 sane_record n d h = of (record_of n d.places) (well_record n d h)
   where
     of : (r : Option Stream) → GoodSelf r → Sane r
-    of none g = tt
-    of (some b) g = (g.inputs.slots.apart, g.outputs.slots.apart)
+    of None g = tt
+    of (Some b) g = (g.inputs.slots.apart, g.outputs.slots.apart)
 
 -- a step answers as the ledger expects, and the two agree after it
 record Kept (k : ℕ) (d : Device) (l : Ledger) (s : Step) : Type 0 where
@@ -73,30 +73,30 @@ own_nothing (finish n qt r flags ts) = refl
 own_nothing (drained n) = refl
 
 knows_pending : (k t n : ℕ) (w : Option Awaited) → known_if w ≡ true → all_of (awaits known) (pending k t n w) ≡ true
-knows_pending k t n none h = refl
-knows_pending k t n (some w) h = both h refl
+knows_pending k t n None h = refl
+knows_pending k t n (Some w) h = both h refl
 
 module _ (k : ℕ) (d : Device) (l : Ledger) (s : Step) (g : Agree d l) (m : good_act s.act ≡ true) where
   abbrev a : Act
   a = s.act
 
-  read : answers_in (bytes_of (step_on d s).answers) ≡ map as_written (step_on d s).answers
-  read = read_back d s g.well m
+  answers_read : answers_in (bytes_of (step_on d s).answers) ≡ map as_written (step_on d s).answers
+  answers_read = read_back d s g.well m
 
   -- a step that is refused by a number
   read_refused : (j : ℕ) → eqb j 0 ≡ false → step_on d s ≡ refused j d → Kept k d l s
   read_refused j z e =
       let o = event_of s (step_on d s) in
-      let no : accepted o ≡ false = accepted_is s (step_on d s) read ∙ ap (λ (x : DeviceReply). eqb x.refusal 0 && not (any_of fails x.answers)) e ∙ simp z in
+      let no : accepted o ≡ false = accepted_is s (step_on d s) answers_read ∙ ap (λ (x : DeviceReply). eqb x.refusal 0 && not (any_of fails x.answers)) e ∙ simp z in
       let is : noted_of k o ≡ noted k a false false =
       λ i. record { number = k; act = a; is_zero = (ap (λ (x : DeviceReply). eqb x.refusal 0) e ∙ z) i; accepted = no i } in
       record {
-        answers = tickets_are s (step_on d s) read ∙ ap (λ (x : DeviceReply). answer_tickets x.answers) e ∙ sym (own_nothing a) ∙ ap (λ (x : Noted). expected_tickets x l) (sym is);
+        answers = tickets_are s (step_on d s) answers_read ∙ ap (λ (x : DeviceReply). answer_tickets x.answers) e ∙ sym (own_nothing a) ∙ ap (λ (x : Noted). expected_tickets x l) (sym is);
         agree = subst (λ (x : DeviceReply). Agree x.device (ledger_after (noted_of k o) l)) (sym e) (subst (λ (x : Noted). Agree d (ledger_after x l)) (sym is) g);
       }
 
   -- a step of a stream
-  module _ (e : step_on d s ≡ perform_of d a (some (step_stream a))) where
+  module _ (e : step_on d s ≡ perform_of d a (Some (step_stream a))) where
     abbrev n : ℕ
     n = step_stream a
 
@@ -110,12 +110,12 @@ module _ (k : ℕ) (d : Device) (l : Ledger) (s : Step) (g : Agree d l) (m : goo
     z = eqb v.refusal 0
 
     taken : accepted (event_of s (step_on d s)) ≡ fit.acc
-    taken = accepted_is s (step_on d s) read ∙ ap (λ (x : DeviceReply). eqb x.refusal 0 && not (any_of fails x.answers)) e ∙ fit.is
+    taken = accepted_is s (step_on d s) answers_read ∙ ap (λ (x : DeviceReply). eqb x.refusal 0 && not (any_of fails x.answers)) e ∙ fit.is
 
     noted_is : noted_of k (event_of s (step_on d s)) ≡ noted k a z fit.acc
     noted_is = λ i. record { number = k; act = a; is_zero = eqb (e i).refusal 0; accepted = taken i }
 
-    own_pending : view_at n (ledger_after (noted k a z fit.acc) l) ≡ holding (record_of n (perform_of d a (some n)).device.places)
+    own_pending : view_at n (ledger_after (noted k a z fit.acc) l) ≡ holding (record_of n (perform_of d a (Some n)).device.places)
     own_pending =
         view_own k a z fit.acc l
         ∙ ap (view_after (completes a) (awaited_by a) (step_ticket a) fit.acc) (g.same_view n)
@@ -132,7 +132,7 @@ module _ (k : ℕ) (d : Device) (l : Ledger) (s : Step) (g : Agree d l) (m : goo
     read_own =
         record {
           answers =
-              tickets_are s (step_on d s) read
+              tickets_are s (step_on d s) answers_read
               ∙ ap (λ (x : DeviceReply). answer_tickets x.answers) e
               ∙ fit.told
               ∙ ap (λ (x : View). tickets_completed (completes a) fit.acc x ++ own_tickets a z fit.acc) (sym (g.same_view n))
@@ -143,16 +143,16 @@ module _ (k : ℕ) (d : Device) (l : Ledger) (s : Step) (g : Agree d l) (m : goo
             same_view = λ j.
                 ap (λ (x : Noted). view_at j (ledger_after x l)) noted_is
                 ∙ decide (eqb n j)
-                (λ q. subst (λ (x : ℕ). view_at x (ledger_after (noted k a z fit.acc) l) ≡ holding (record_of x (perform_of d a (some n)).device.places)) (eqb-true n j q) own_pending)
+                (λ q. subst (λ (x : ℕ). view_at x (ledger_after (noted k a z fit.acc) l) ≡ holding (record_of x (perform_of d a (Some n)).device.places)) (eqb-true n j q) own_pending)
                 (λ q. view_other k j a z fit.acc l q ∙ g.same_view j ∙ ap holding (sym (other_record j n d a q)))
                 ∙ ap (λ (x : DeviceReply). holding (record_of j x.device.places)) (sym e);
             knows = ap (λ (x : Noted). all_of (awaits known) (ledger_after x l)) noted_is ∙ still_knows fit.acc fit.adds;
           };
         }
 
-pub step_stream_is : (a : Act) (n : ℕ) → stream_of a ≡ some n → n ≡ step_stream a
+pub step_stream_is : (a : Act) (n : ℕ) → stream_of a ≡ Some n → n ≡ step_stream a
 unfolding stream_of
-step_stream_is (command t f) n e = decide (ltb (length f) 8) (λ h. let z : none ≡ some n = simp h at e in cc) (λ h. let z : some (field 4 f 4) ≡ some n = simp h at e in cc)
+step_stream_is (command t f) n e = decide (ltb (length f) 8) (λ h. let z : None ≡ Some n = simp h at e in cc) (λ h. let z : Some (field 4 f 4) ≡ Some n = simp h at e in cc)
 step_stream_is (finish m qt r flags ts) n e = cc
 step_stream_is (drained m) n e = cc
 
@@ -163,8 +163,8 @@ event_read k d l s g m =
     (λ e. read_refused k d l s g m (room_refusal s) e (step_refused d s e))
   where
     of : (o : Option ℕ) → stream_of s.act ≡ o → step_on d s ≡ perform d s.act → Kept k d l s
-    of none e h = read_refused k d l s g m 4 refl (h ∙ ap (perform_of d s.act) e)
-    of (some n) e h = read_own k d l s g m (h ∙ ap (perform_of d s.act) (e ∙ ap some (step_stream_is s.act n e)))
+    of None e h = read_refused k d l s g m 4 refl (h ∙ ap (perform_of d s.act) e)
+    of (Some n) e h = read_own k d l s g m (h ∙ ap (perform_of d s.act) (e ∙ ap Some (step_stream_is s.act n e)))
 
 agree_step : (k : ℕ) (d : Device) (l : Ledger) (s : Step) → Agree d l → good_act s.act ≡ true → Agree (step_on d s).device (ledger_after (noted_of k (event_of s (step_on d s))) l)
 agree_step k d l s g m = (event_read k d l s g m).agree
@@ -282,8 +282,8 @@ module _ (p : Outstanding → Bool) where
 
   by_record : (r : Option Stream) → in_view (holding r) ≡ how_many p (outstanding_in r)
   unfolding holding
-  by_record none = refl
-  by_record (some b) =
+  by_record None = refl
+  by_record (Some b) =
       omega (
         arith,
         how_many_buffers 0x100 (queued_in b.inputs.slots),
@@ -297,8 +297,8 @@ module _ (p : Outstanding → Bool) where
 
 -- and how many these are is what going through the record gives
 length_record : (r : Option Stream) → pending_of r ≡ length (outstanding_in r)
-length_record none = refl
-length_record (some b) =
+length_record None = refl
+length_record (Some b) =
     let ins = outstanding_buffers 0x100 (queued_in b.inputs.slots) in
     let outs = outstanding_buffers 0x101 (queued_in b.outputs.slots) in
     omega (
@@ -389,8 +389,8 @@ balance j k l (e ∷ es) h w =
 -- step numbers are each given once
 
 pending_other : (j k t n : ℕ) (w : Option Awaited) → (k ≡ j → ⊥) → how_many (of_step j) (pending k t n w) ≡ 0
-pending_other j k t n none h = refl
-pending_other j k t n (some w) h = simp (ne_eqb k j h)
+pending_other j k t n None h = refl
+pending_other j k t n (Some w) h = simp (ne_eqb k j h)
 
 new_other : (j k : ℕ) (a : Act) (acc : Bool) → (k ≡ j → ⊥) → how_many (of_step j) (new k a acc) ≡ 0
 new_other j k a true h = pending_other j k (step_ticket a) (step_stream a) (awaited_by a) h
@@ -407,8 +407,8 @@ added_later j k (e ∷ es) h =
     )
 
 pending_own : (k t n : ℕ) (w : Option Awaited) → is_none w ≡ false → how_many (of_step k) (pending k t n w) ≡ 1
-pending_own k t n none h = never h
-pending_own k t n (some w) h = simp (eqb_same k)
+pending_own k t n None h = never h
+pending_own k t n (Some w) h = simp (eqb_same k)
 
 added_once : (j k : ℕ) (before later : List Event) (e : Event) → j ≡ k + length before → accepted e ≡ true → is_none (awaited_by e.step.act) ≡ false
     → how_many (of_step j) (added k (before ++ e ∷ later)) ≡ 1
@@ -428,8 +428,8 @@ added_once j k (y ∷ before) later e i acc h =
 -- After a destruction nothing older of its stream is pending
 
 old_pending : (n j k t m : ℕ) (w : Option Awaited) → j ≤ k → keep (older n j) (pending k t m w) ≡ []
-old_pending n j k t m none h = refl
-old_pending n j k t m (some w) h = decide (eqb m n) (λ e. simp (e, le-ltb k j h)) (λ e. simp e)
+old_pending n j k t m None h = refl
+old_pending n j k t m (Some w) h = decide (eqb m n) (λ e. simp (e, le-ltb k j h)) (λ e. simp e)
 
 old_after : (n j k : ℕ) (a : Act) (z acc : Bool) (l : Ledger) → j ≤ k → keep (older n j) l ≡ [] → keep (older n j) (ledger_after (noted k a z acc) l) ≡ []
 old_after n j k a z false l h e = e

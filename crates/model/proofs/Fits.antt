@@ -2,7 +2,7 @@
 -- not accepted leaves the record alone.
 use mathlib.Core.Path.{◌≡◌, refl, sym, ap, ◌∙◌, subst}
 use mathlib.Core.Bool.{Bool, true, false, cond, not, ◌&&◌, ◌||◌, and-false, or-false}
-use mathlib.Core.Option.{Option, none, some}
+use Rattle.std.specs.Prelude.{Option, None, Some}
 use mathlib.Core.List.{List, [], ◌∷◌, ◌++◌, map, append-nil, append_assoc, map-append}
 use Prim.Native.Nat.{ℕ}
 use lib.ListN.{length}
@@ -30,13 +30,13 @@ use Rattle.model.proofs.LedgerView.{View, pick, buffer_tickets, tickets_of, view
 
 -- resource numbers are distinct
 abbrev pub Sane : Option Stream → Type 0
-Sane none = Unit {0}
-Sane (some b) = Distinct b.inputs.slots × Distinct b.outputs.slots
+Sane None = Unit {0}
+Sane (Some b) = Distinct b.inputs.slots × Distinct b.outputs.slots
 
 -- what is pending by a record
 unfoldable pub holding : Option Stream → View
-holding none = record { queued = λ q. []; drains = [] }
-holding (some b) = record { queued = λ q. buffers q b; drains = to_list b.draining }
+holding None = record { queued = λ q. []; drains = [] }
+holding (Some b) = record { queued = λ q. buffers q b; drains = to_list b.draining }
 
 abbrev pub is_failure : Response → Bool
 is_failure success = false
@@ -63,8 +63,8 @@ known (to_buffer q r ts) = eqb q 0x100 || eqb q 0x101
 known to_drain = true
 
 abbrev pub known_if : Option Awaited → Bool
-known_if none = true
-known_if (some w) = known w
+known_if None = true
+known_if (Some w) = known w
 
 abbrev pub answer_tickets : List Answer → List ℕ
 answer_tickets = map (λ (a : Answer). a.ticket)
@@ -104,7 +104,7 @@ pick_none v = simp (keep_const false (v.queued input), keep_const false (v.queue
 
 -- one answer under the command's own ticket, and nothing pending more or less
 quiet_fits : (n t : ℕ) (a : Answer) (self next : Option Stream) → a.ticket ≡ t → fails a ≡ false → holding next ≡ holding self
-    → Fits (λ x. false) none n t (me t false) self (reply (a ∷ []) next)
+    → Fits (λ x. false) None n t (me t false) self (reply (a ∷ []) next)
 quiet_fits n t a self next k e h =
     record {
       acc = true;
@@ -122,21 +122,21 @@ fine_stopped n q [] = refl
 fine_stopped n q (i ∷ l) = fine_stopped n q l
 
 fine_drain : (n : ℕ) (d : Option ℕ) → any_of fails (drain_answers n d) ≡ false
-fine_drain n none = refl
-fine_drain n (some t) = refl
+fine_drain n None = refl
+fine_drain n (Some t) = refl
 
 tickets_stopped : (n : ℕ) (q : QueueType) (l : List Buffer) → answer_tickets (stopped_answers n q l) ≡ buffer_tickets l
 tickets_stopped n q [] = refl
 tickets_stopped n q (i ∷ l) = ap (λ r. i.ticket ∷ r) (tickets_stopped n q l)
 
 tickets_drain : (n : ℕ) (d : Option ℕ) → answer_tickets (drain_answers n d) ≡ to_list d
-tickets_drain n none = refl
-tickets_drain n (some t) = refl
+tickets_drain n None = refl
+tickets_drain n (Some t) = refl
 
 -- what is pending where one queue is changed: that queue's, and the other's as before
 view_with : (q : QueueType) (x : Queue) (b : Stream) (g : QueueType → List Buffer) (d : List ℕ) → by_resource (queued_in x.slots) ≡ g q
     → ((o : QueueType) → eqb (queue_number q) (queue_number o) ≡ false → buffers o b ≡ g o) → to_list b.draining ≡ d
-    → holding (some (with_queue q x b)) ≡ record { queued = g; drains = d }
+    → holding (Some (with_queue q x b)) ≡ record { queued = g; drains = d }
 unfolding holding
 view_with input x b g d here other e = λ i. record { queued = λ o. at o i; drains = e i }
   where
@@ -149,11 +149,11 @@ view_with output x b g d here other e = λ i. record { queued = λ o. at o i; dr
     at input = other input refl
     at output = here
 
-same_queued : (q : QueueType) (x : Queue) (b : Stream) → queued_in x.slots ≡ queued_in (queue_of q b).slots → holding (some (with_queue q x b)) ≡ holding (some b)
+same_queued : (q : QueueType) (x : Queue) (b : Stream) → queued_in x.slots ≡ queued_in (queue_of q b).slots → holding (Some (with_queue q x b)) ≡ holding (Some b)
 unfolding holding
 same_queued q x b h = view_with q x b (λ o. buffers o b) (to_list b.draining) (ap by_resource h) (λ o _. refl) refl
 
-sane_of : (q : QueueType) (b : Stream) → Sane (some b) → Distinct (queue_of q b).slots
+sane_of : (q : QueueType) (b : Stream) → Sane (Some b) → Distinct (queue_of q b).slots
 sane_of input b s = s.0
 sane_of output b s = s.1
 
@@ -162,9 +162,9 @@ known_queue input r ts = refl
 known_queue output r ts = refl
 
 -- an accepted queueing
-queue_fits : (q : QueueType) (n t r ts : ℕ) (b : Stream) → Sane (some b) → present r (queue_of q b).slots ≡ true → buffer_of r (queued_in (queue_of q b).slots) ≡ none
-    → Fits (λ x. false) (some (to_buffer (queue_number q) r ts)) n t (me t true) (some b)
-    (reply [] (some (with_queue q (with_slots (set_state r (queued t ts) (queue_of q b).slots) (queue_of q b)) b)))
+queue_fits : (q : QueueType) (n t r ts : ℕ) (b : Stream) → Sane (Some b) → present r (queue_of q b).slots ≡ true → buffer_of r (queued_in (queue_of q b).slots) ≡ None
+    → Fits (λ x. false) (Some (to_buffer (queue_number q) r ts)) n t (me t true) (Some b)
+    (reply [] (Some (with_queue q (with_slots (set_state r (queued t ts) (queue_of q b).slots) (queue_of q b)) b)))
 unfolding holding
 queue_fits q n t r ts b s p f =
     record {
@@ -173,7 +173,7 @@ queue_fits q n t r ts b s p f =
       held = view_with q (with_slots (set_state r (queued t ts) (queue_of q b).slots) (queue_of q b)) b _ _
           (simp (eqb_same (queue_number q), keep_const true (buffers q b)) (queued_more r t ts (queue_of q b).slots (sane_of q b s) p f))
           (λ o h. simp (h, keep_const true (buffers o b))) refl;
-      told = simp (pick_none (holding (some b)));
+      told = simp (pick_none (holding (Some b)));
       adds = λ _. known_queue q r ts;
       rejected = λ z. never z;
     }
@@ -183,14 +183,14 @@ buffers_drain d b input = sym (keep_const true (buffers input b))
 buffers_drain d b output = sym (keep_const true (buffers output b))
 
 -- an accepted drain
-drain_fits : (n t : ℕ) (b : Stream) → b.draining ≡ none → Fits (λ x. false) (some to_drain) n t (me t true) (some b) (reply [] (some (with_drain (some t) b)))
+drain_fits : (n t : ℕ) (b : Stream) → b.draining ≡ None → Fits (λ x. false) (Some to_drain) n t (me t true) (Some b) (reply [] (Some (with_drain (Some t) b)))
 unfolding holding
 drain_fits n t b d =
     record {
       acc = true;
       is = refl;
-      held = λ i. record { queued = λ q. buffers_drain (some t) b q i; drains = t ∷ to_list (sym d i) };
-      told = simp (pick_none (holding (some b)));
+      held = λ i. record { queued = λ q. buffers_drain (Some t) b q i; drains = t ∷ to_list (sym d i) };
+      told = simp (pick_none (holding (Some b)));
       adds = λ _. refl;
       rejected = λ z. never z;
     }
@@ -200,15 +200,15 @@ abbrev clears : ℕ → Awaited → Bool
 clears qt w = is_buffer_of qt w || (eqb qt 0x100 && is_drain w)
 
 clear_held : (q : QueueType) (b : Stream)
-    → holding (some (with_queue q (cleared (queue_of q b)) (without_ended (is_input q) b))) ≡ view_after (clears (queue_number q)) none 0 true (holding (some b))
+    → holding (Some (with_queue q (cleared (queue_of q b)) (without_ended (is_input q) b))) ≡ view_after (clears (queue_number q)) None 0 true (holding (Some b))
 unfolding holding
 clear_held q b = held q
   where
     left : QueueType → QueueType → List Buffer
-    left x o = (view_after (clears (queue_number x)) none 0 true (holding (some b))).queued o
+    left x o = (view_after (clears (queue_number x)) None 0 true (holding (Some b))).queued o
 
     undrained : QueueType → Stream
-    undrained input = with_drain none b
+    undrained input = with_drain None b
     undrained output = b
 
     other : (x o : QueueType) → eqb (queue_number x) (queue_number o) ≡ false → buffers o (undrained x) ≡ left x o
@@ -217,21 +217,21 @@ clear_held q b = held q
     other output input h = sym (keep_const true (buffers input b))
     other output output h = never h
 
-    held : (x : QueueType) → holding (some (with_queue x (cleared (queue_of x b)) (without_ended (is_input x) b))) ≡ view_after (clears (queue_number x)) none 0 true (holding (some b))
+    held : (x : QueueType) → holding (Some (with_queue x (cleared (queue_of x b)) (without_ended (is_input x) b))) ≡ view_after (clears (queue_number x)) None 0 true (holding (Some b))
     held input = view_with input (cleared b.inputs) (undrained input) (left input) _ (ap by_resource (queued_stop b.inputs.slots) ∙ sym (keep_const false (buffers input b))) (other input) refl
     held output = view_with output (cleared b.outputs) (undrained output) (left output) _ (ap by_resource (queued_stop b.outputs.slots) ∙ sym (keep_const false (buffers output b))) (other output) refl
 
 clear_told : (q : QueueType) (n t : ℕ) (b : Stream)
     → answer_tickets (stopped_answers n q (buffers q b) ++ (drain_answers n (drain_ended (is_input q) b) ++ record { ticket = t; stream = n; response = success } ∷ []))
-    ≡ tickets_of (pick (clears (queue_number q)) (holding (some b))) ++ t ∷ []
+    ≡ tickets_of (pick (clears (queue_number q)) (holding (Some b))) ++ t ∷ []
 unfolding holding
 clear_told input n t b = simp (map-append, tickets_stopped, tickets_drain n (drain_ended true b), keep_const true (buffers input b), keep_const false (buffers output b), append_assoc)
 clear_told output n t b = simp (map-append, tickets_stopped, keep_const true (buffers output b), keep_const false (buffers input b), append-nil)
 
 clear_fits : (q : QueueType) (n t : ℕ) (b : Stream)
-    → Fits (clears (queue_number q)) none n t (me t false) (some b)
+    → Fits (clears (queue_number q)) None n t (me t false) (Some b)
     (reply (stopped_answers n q (buffers q b) ++ (drain_answers n (drain_ended (is_input q) b) ++ record { ticket = t; stream = n; response = success } ∷ []))
-    (some (with_queue q (cleared (queue_of q b)) (without_ended (is_input q) b))))
+    (Some (with_queue q (cleared (queue_of q b)) (without_ended (is_input q) b))))
 clear_fits q n t b =
     record {
       acc = true;
@@ -243,7 +243,7 @@ clear_fits q n t b =
     }
 
 -- an accepted destruction
-destroy_fits : (c : Request) (b : Stream) → Fits (λ x. true) none c.stream c.ticket (me c.ticket false) (some b) (on_destroy c b)
+destroy_fits : (c : Request) (b : Stream) → Fits (λ x. true) None c.stream c.ticket (me c.ticket false) (Some b) (on_destroy c b)
 unfolding holding on_destroy
 destroy_fits c b =
     let n = c.stream in
@@ -280,13 +280,13 @@ module _ (q : QueueType) (n r : ℕ) (ends : Bool) (b : Stream) where
   abbrev mine : QueueType → Buffer → Bool
   mine = is_finished (queue_number q) r
 
-  finish_told : (i : Buffer) → Sane (some b) → buffer_of r (queued_in (queue_of q b).slots) ≡ some i
-      → i.ticket ∷ answer_tickets (drain_answers n (drain_ended ends b)) ≡ tickets_of (pick done (holding (some b)))
+  finish_told : (i : Buffer) → Sane (Some b) → buffer_of r (queued_in (queue_of q b).slots) ≡ Some i
+      → i.ticket ∷ answer_tickets (drain_answers n (drain_ended ends b)) ≡ tickets_of (pick done (holding (Some b)))
   unfolding holding
   finish_told i s f =
       ap (λ l. i.ticket ∷ l) (tickets_drain n (drain_ended ends b) ∙ drains_ended ends)
       ∙ go q refl
-      ∙ ap tickets_of (sym (pick_as done mine (holding (some b)) (λ o x. simp (and-false ends, or-false (mine o x)))))
+      ∙ ap tickets_of (sym (pick_as done mine (holding (Some b)) (λ o x. simp (and-false ends, or-false (mine o x)))))
     where
       out : keep (is_res r) (buffers q b) ≡ i ∷ []
       out = keep_ascending by_res (is_res r) (queued_in (queue_of q b).slots) ∙ ap by_resource (queued_only r i (queue_of q b).slots (sane_of q b s) f) ∙ one_of i
@@ -300,14 +300,14 @@ module _ (q : QueueType) (n r : ℕ) (ends : Bool) (b : Stream) where
       go input e = simp (e, subst (λ (x : QueueType). keep (is_res r) (buffers x b) ≡ i ∷ []) e out, keep_const false (buffers output b))
       go output e = simp (e, subst (λ (x : QueueType). keep (is_res r) (buffers x b) ≡ i ∷ []) e out, keep_const false (buffers input b))
 
-  finish_held : holding (some (with_queue q (with_slots (set_state r dequeued (queue_of q b).slots) (queue_of q b)) (without_ended ends b))) ≡ view_after done none 0 true (holding (some b))
+  finish_held : holding (Some (with_queue q (with_slots (set_state r dequeued (queue_of q b).slots) (queue_of q b)) (without_ended ends b))) ≡ view_after done None 0 true (holding (Some b))
   unfolding holding
   finish_held =
       let x = (queue_of q b).slots in
       view_with q (with_slots (set_state r dequeued x) (queue_of q b)) (without_ended ends b) _ _
       (simp (eqb_same (queue_number q)) (ap by_resource (queued_finish r x) ∙ sym (keep_ascending by_res (λ y. not (is_res r y)) (queued_in x))))
       (λ o h. simp (eqb_sym (queue_number q) (queue_number o) h) (same_buffers ends o ∙ sym (keep_const true (buffers o b)))) (drains_left ends)
-      ∙ sym (pick_as (λ w. not (done w)) (λ o y. not (mine o y)) (holding (some b)) (λ o y. simp (and-false ends, or-false (mine o y))))
+      ∙ sym (pick_as (λ w. not (done w)) (λ o y. not (mine o y)) (holding (Some b)) (λ o y. simp (and-false ends, or-false (mine o y))))
     where
       same_buffers : (e : Bool) (o : QueueType) → buffers o (without_ended e b) ≡ buffers o b
       same_buffers true input = refl
@@ -321,12 +321,12 @@ module _ (q : QueueType) (n r : ℕ) (ends : Bool) (b : Stream) where
 pub finish_accepted : (n flags ts : ℕ) (b : Stream) (q : QueueType) (i : Buffer) (next : Option Stream) → accepted_reply (reply (finish_answers n flags ts b q i) next) ≡ true
 finish_accepted n flags ts b q i next = simp (fine_drain n (drain_ended (has_eos flags) b))
 
-finish_fits : (q : QueueType) (n r flags ts : ℕ) (i : Buffer) (b : Stream) → Sane (some b) → buffer_of r (queued_in (queue_of q b).slots) ≡ some i
-    → Fits (finishes (queue_number q) r (has_eos flags)) none n 0 nobody (some b) (reply (finish_answers n flags ts b q i) (some (finish_leaves r flags b q)))
+finish_fits : (q : QueueType) (n r flags ts : ℕ) (i : Buffer) (b : Stream) → Sane (Some b) → buffer_of r (queued_in (queue_of q b).slots) ≡ Some i
+    → Fits (finishes (queue_number q) r (has_eos flags)) None n 0 nobody (Some b) (reply (finish_answers n flags ts b q i) (Some (finish_leaves r flags b q)))
 finish_fits q n r flags ts i b s f =
     record {
       acc = true;
-      is = finish_accepted n flags ts b q i (some (finish_leaves r flags b q));
+      is = finish_accepted n flags ts b q i (Some (finish_leaves r flags b q));
       held = finish_held q n r (has_eos flags) b;
       told = finish_told q n r (has_eos flags) b i s f ∙ sym (append-nil _);
       adds = λ _. refl;
@@ -334,14 +334,14 @@ finish_fits q n r flags ts i b s f =
     }
 
 -- an accepted drained report
-drained_fits : (n t : ℕ) (b : Stream) → b.draining ≡ some t
-    → Fits is_drain none n 0 nobody (some b) (reply (record { ticket = t; stream = n; response = drain_done } ∷ []) (some (with_drain none b)))
+drained_fits : (n t : ℕ) (b : Stream) → b.draining ≡ Some t
+    → Fits is_drain None n 0 nobody (Some b) (reply (record { ticket = t; stream = n; response = drain_done } ∷ []) (Some (with_drain None b)))
 unfolding holding
 drained_fits n t b d =
     record {
       acc = true;
       is = refl;
-      held = λ i. record { queued = λ q. buffers_drain none b q i; drains = [] };
+      held = λ i. record { queued = λ q. buffers_drain None b q i; drains = [] };
       told = simp (d, keep_const false (buffers input b), keep_const false (buffers output b));
       adds = λ _. refl;
       rejected = λ z. never z;
@@ -358,7 +358,7 @@ abbrev completes_type : ℕ → List ℕ → Awaited → Bool
 completes_type ty f w = eqb ty 0x0102 || (eqb ty 0x0107 && clears (field 4 f 8) w)
 
 abbrev awaited_type : ℕ → List ℕ → Option Awaited
-awaited_type ty f = cond (eqb ty 0x0105) (some (to_buffer (field 4 f 8) (field 4 f 12) (field 8 f 16))) (cond (eqb ty 0x0103) (some to_drain) none)
+awaited_type ty f = cond (eqb ty 0x0105) (Some (to_buffer (field 4 f 8) (field 4 f 12) (field 8 f 16))) (cond (eqb ty 0x0103) (Some to_drain) None)
 
 abbrev answers_later : ℕ → Bool
 answers_later ty = eqb ty 0x0105 || eqb ty 0x0103
@@ -369,26 +369,26 @@ FitsType ty n t f self v = Fits (completes_type ty f) (awaited_type ty f) n t (m
 fail_type : (ty n t : ℕ) (f : List ℕ) (self : Option Stream) (e : ErrorCode) → FitsType ty n t f self (fail (request_of n t self f) e)
 fail_type ty n t f self e = fail_fits (completes_type ty f) (awaited_type ty f) (request_of n t self f) (answers_later ty) e
 
-module _ (n t : ℕ) (f : List ℕ) (b : Stream) (s : Sane (some b)) where
+module _ (n t : ℕ) (f : List ℕ) (b : Stream) (s : Sane (Some b)) where
   abbrev FitsLive : ℕ → Reply → Type 0
-  FitsLive ty v = FitsType ty n t f (some b) v
+  FitsLive ty v = FitsType ty n t f (Some b) v
 
   abbrev c : Request
-  c = request_of n t (some b) f
+  c = request_of n t (Some b) f
 
   bad : (ty : ℕ) (e : ErrorCode) → FitsLive ty (fail c e)
-  bad ty e = fail_type ty n t f (some b) e
+  bad ty e = fail_type ty n t f (Some b) e
 
   -- a command to the queue that it names
-  in_queue_lem : (ty : ℕ) (k : QueueCommand) → ((q : QueueType) → queue_named (field 4 f 8) ≡ some q → FitsLive ty (on_queue_of k c b q)) → FitsLive ty (on_live (to_queue k) c b)
+  in_queue_lem : (ty : ℕ) (k : QueueCommand) → ((q : QueueType) → queue_named (field 4 f 8) ≡ Some q → FitsLive ty (on_queue_of k c b q)) → FitsLive ty (on_live (to_queue k) c b)
   in_queue_lem ty k h = named_cases (FitsLive ty) k c b (bad ty invalid_parameter) h
 
   queued_live : FitsLive 0x0105 (on_live (to_queue queue_resource) c b)
   unfolding on_queue
   queued_live =
       in_queue_lem 0x0105 queue_resource (λ q e. tests_cases (FitsLive 0x0105) (fail c) _ (bad 0x0105) (λ h₁ h₂ h₃ h₄.
-      subst (λ (x : ℕ). Fits (λ w. false) (some (to_buffer x (resource_id f) (timestamp_sent f))) n t (me t true) (some b)
-      (reply [] (some (with_queue q (with_slots (set_state (resource_id f) (queued t (timestamp_sent f)) (queue_of q b).slots) (queue_of q b)) b))))
+      subst (λ (x : ℕ). Fits (λ w. false) (Some (to_buffer x (resource_id f) (timestamp_sent f))) n t (me t true) (Some b)
+      (reply [] (Some (with_queue q (with_slots (set_state (resource_id f) (queued t (timestamp_sent f)) (queue_of q b).slots) (queue_of q b)) b))))
       (sym (named_number (field 4 f 8) q e))
       (queue_fits q n t (resource_id f) (timestamp_sent f) b s (not-false _ h₃) (none_is _ (not-false _ h₄)))))
 
@@ -396,14 +396,14 @@ module _ (n t : ℕ) (f : List ℕ) (b : Stream) (s : Sane (some b)) where
   unfolding on_clear
   cleared_live =
       in_queue_lem 0x0107 clear (λ q e.
-      subst (λ (x : ℕ). Fits (clears x) none n t (me t false) (some b)
-      (reply (stopped_answers n q (buffers q b) ++ (drain_answers n (drain_ended (is_input q) b) ++ own c success ∷ [])) (some (with_queue q (cleared (queue_of q b)) (without_ended (is_input q) b)))))
+      subst (λ (x : ℕ). Fits (clears x) None n t (me t false) (Some b)
+      (reply (stopped_answers n q (buffers q b) ++ (drain_answers n (drain_ended (is_input q) b) ++ own c success ∷ [])) (Some (with_queue q (cleared (queue_of q b)) (without_ended (is_input q) b)))))
       (sym (named_number (field 4 f 8) q e)) (clear_fits q n t b))
 
   -- a command that neither adds nor completes anything changes one queue at most, and not what is Queued in it
   quiet : (q : QueueType) (x : Queue) → queued_in x.slots ≡ queued_in (queue_of q b).slots
-      → Fits (λ w. false) none n t (me t false) (some b) (reply (own c success ∷ []) (some (with_queue q x b)))
-  quiet q x h = quiet_fits n t (own c success) (some b) (some (with_queue q x b)) refl refl (same_queued q x b h)
+      → Fits (λ w. false) None n t (me t false) (Some b) (reply (own c success ∷ []) (Some (with_queue q x b)))
+  quiet q x h = quiet_fits n t (own c success) (Some b) (Some (with_queue q x b)) refl refl (same_queued q x b h)
 
   resource_live : FitsLive 0x0104 (on_live (to_queue create_resource) c b)
   unfolding on_create_resource
@@ -422,7 +422,7 @@ module _ (n t : ℕ) (f : List ℕ) (b : Stream) (s : Sane (some b)) where
 
   got_live : FitsLive 0x0108 (on_live (to_queue get_parameters) c b)
   unfolding on_get
-  got_live = in_queue_lem 0x0108 get_parameters (λ q e. quiet_fits n t (own c (parameters _)) (some b) (some b) refl refl refl)
+  got_live = in_queue_lem 0x0108 get_parameters (λ q e. quiet_fits n t (own c (parameters _)) (Some b) (Some b) refl refl refl)
 
   set_live : FitsLive 0x0109 (on_live (to_queue set_parameters) c b)
   unfolding on_set
@@ -433,7 +433,7 @@ module _ (n t : ℕ) (f : List ℕ) (b : Stream) (s : Sane (some b)) where
   drain_live = tests_cases (FitsLive 0x0103) (fail c) _ (bad 0x0103) (λ h. drain_fits n t b (none_is _ (not-false _ h)))
 
 -- nothing is pending of a new stream
-new_pends : (format : ℕ) → holding (some (new_stream format)) ≡ holding none
+new_pends : (format : ℕ) → holding (Some (new_stream format)) ≡ holding None
 unfolding holding
 new_pends format = λ i. record { queued = λ q. nothing q i; drains = [] }
   where
@@ -441,11 +441,11 @@ new_pends format = λ i. record { queued = λ q. nothing q i; drains = [] }
     nothing input = refl
     nothing output = refl
 
-create_fits : (around : Surroundings) (n t : ℕ) (f : List ℕ) → FitsType 0x0101 n t f none (on_create around (request_of n t none f))
+create_fits : (around : Surroundings) (n t : ℕ) (f : List ℕ) → FitsType 0x0101 n t f None (on_create around (request_of n t None f))
 unfolding on_create
 create_fits around n t f =
-    tests_all (FitsType 0x0101 n t f none) (fail (request_of n t none f)) _ (λ e. fail_type 0x0101 n t f none e)
-    (quiet_fits n t (own (request_of n t none f) success) none (some (new_stream (coded_format f))) refl refl (new_pends (coded_format f)))
+    tests_all (FitsType 0x0101 n t f None) (fail (request_of n t None f)) _ (λ e. fail_type 0x0101 n t f None e)
+    (quiet_fits n t (own (request_of n t None f) success) None (Some (new_stream (coded_format f))) refl refl (new_pends (coded_format f)))
 
 module _ (around : Surroundings) (n t : ℕ) (f : List ℕ) where
   abbrev OfRule : Option Stream → ℕ → Option CommandRule → Type 0
@@ -453,20 +453,20 @@ module _ (around : Surroundings) (n t : ℕ) (f : List ℕ) where
 
   -- a rule, by its length
   of_rule : (self : Option Stream) (l : CommandRule) → FitsType l.type n t f self (on_stream around (request_of n t self f) l.command self)
-      → OfRule self l.type (some l)
+      → OfRule self l.type (Some l)
   of_rule self l h = cond_elim (FitsType l.type n t f self) (wrong_length l.length_rule (length f)) (λ _. fail_type l.type n t f self invalid_parameter) (λ _. h)
 
   create_rule : (self : Option Stream) → NotAgain around self → FitsType 0x0101 n t f self (on_stream around (request_of n t self f) create self)
-  create_rule none u = cond_elim (FitsType 0x0101 n t f none) around.unusable (λ _. fail_type 0x0101 n t f none invalid_stream) (λ _. create_fits around n t f)
-  create_rule (some b) u = simp u (fail_type 0x0101 n t f (some b) invalid_stream)
+  create_rule None u = cond_elim (FitsType 0x0101 n t f None) around.unusable (λ _. fail_type 0x0101 n t f None invalid_stream) (λ _. create_fits around n t f)
+  create_rule (Some b) u = simp u (fail_type 0x0101 n t f (Some b) invalid_stream)
 
   live_rule : (ty : ℕ) (k : LiveCommand) (self : Option Stream) → Sane self
-      → ((b : Stream) → Sane (some b) → FitsType ty n t f (some b) (on_live k (request_of n t (some b) f) b)) → FitsType ty n t f self (on_stream around (request_of n t self f) (live k) self)
-  live_rule ty k none s h = fail_type ty n t f none invalid_stream
-  live_rule ty k (some b) s h = h b s
+      → ((b : Stream) → Sane (Some b) → FitsType ty n t f (Some b) (on_live k (request_of n t (Some b) f) b)) → FitsType ty n t f self (on_stream around (request_of n t self f) (live k) self)
+  live_rule ty k None s h = fail_type ty n t f None invalid_stream
+  live_rule ty k (Some b) s h = h b s
 
-  unsupported : (ty : ℕ) (b : Stream) → Sane (some b) → FitsType ty n t f (some b) (fail (request_of n t (some b) f) unsupported_control)
-  unsupported ty b s = fail_type ty n t f (some b) unsupported_control
+  unsupported : (ty : ℕ) (b : Stream) → Sane (Some b) → FitsType ty n t f (Some b) (fail (request_of n t (Some b) f) unsupported_control)
+  unsupported ty b s = fail_type ty n t f (Some b) unsupported_control
 
   -- by the table of commands
   OfStream : Option Stream → CommandRule → Type 0
@@ -477,7 +477,7 @@ module _ (around : Surroundings) (n t : ℕ) (f : List ℕ) where
   streams self u s = (
     create_rule self u,
     (
-      live_rule 0x0102 destroy self s (λ b _. destroy_fits (request_of n t (some b) f) b),
+      live_rule 0x0102 destroy self s (λ b _. destroy_fits (request_of n t (Some b) f) b),
       (
         live_rule 0x0103 drain self s (drain_live n t f),
         (
@@ -511,30 +511,30 @@ module _ (around : Surroundings) (n t : ℕ) (f : List ℕ) where
 
   command_fits : (self : Option Stream) → NotAgain around self → Sane self → (ty : ℕ) → OfRule self ty (rule_of ty)
   unfolding OfStream
-  command_fits self u s = by_type (OfRule self) (each_map (OfStream self) (λ l. OfRule self l.type (some l)) (of_rule self) commands (streams self u s)) (λ ty. fail_type ty n t f self invalid_operation)
+  command_fits self u s = by_type (OfRule self) (each_map (OfStream self) (λ l. OfRule self l.type (Some l)) (of_rule self) commands (streams self u s)) (λ ty. fail_type ty n t f self invalid_operation)
 
 -- Reports
 
 module _ (n qt r flags ts : ℕ) where
   abbrev FinishFits : Option Stream → Reply → Type 0
-  FinishFits self v = Fits (finishes qt r (has_eos flags)) none n 0 nobody self v
+  FinishFits self v = Fits (finishes qt r (has_eos flags)) None n 0 nobody self v
 
   not_finished : (self : Option Stream) (k : ℕ) → eqb k 0 ≡ false → FinishFits self (refuse k self)
-  not_finished self k z = refuse_fits (finishes qt r (has_eos flags)) none n 0 k self z
+  not_finished self k z = refuse_fits (finishes qt r (has_eos flags)) None n 0 k self z
 
   finished : (self : Option Stream) → Sane self → FinishFits self (on_finish n qt r flags ts self)
   finished self s =
       finish_cases (FinishFits self) n qt r flags ts self (not_finished self 5 refl) (not_finished self 6 refl)
-      (λ b q i h. let v = reply (finish_answers n flags ts b q i) (some (finish_leaves r flags b q)) in
+      (λ b q i h. let v = reply (finish_answers n flags ts b q i) (Some (finish_leaves r flags b q)) in
       subst (λ (x : Option Stream). FinishFits x v) (sym h.self_is)
-      (subst (λ (x : ℕ). Fits (finishes x r (has_eos flags)) none n 0 nobody (some b) v) (sym (named_number qt q h.named_is))
+      (subst (λ (x : ℕ). Fits (finishes x r (has_eos flags)) None n 0 nobody (Some b) v) (sym (named_number qt q h.named_is))
       (finish_fits q n r flags ts i b (subst Sane h.self_is s) h.waits_is)))
 
-drained_in_lem : (n : ℕ) (self : Option Stream) → Fits is_drain none n 0 nobody self (on_drained n self)
+drained_in_lem : (n : ℕ) (self : Option Stream) → Fits is_drain None n 0 nobody self (on_drained n self)
 drained_in_lem n self =
-    drained_cases (Fits is_drain none n 0 nobody self) n self (refuse_fits is_drain none n 0 5 self refl)
+    drained_cases (Fits is_drain None n 0 nobody self) n self (refuse_fits is_drain None n 0 5 self refl)
     (λ b t h.
-    subst (λ (x : Option Stream). Fits is_drain none n 0 nobody x (reply (record { ticket = t; stream = n; response = drain_done } ∷ []) (some (with_drain none b)))) (sym h.self_is)
+    subst (λ (x : Option Stream). Fits is_drain None n 0 nobody x (reply (record { ticket = t; stream = n; response = drain_done } ∷ []) (Some (with_drain None b)))) (sym h.self_is)
     (drained_fits n t b h.drain_is))
 
 -- Every step

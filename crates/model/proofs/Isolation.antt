@@ -1,7 +1,7 @@
 -- A stream's answers and its record do not depend on the other streams.
 use mathlib.Core.Path.{◌≡◌, refl, sym, ap, ap₂, ◌∙◌, subst}
 use mathlib.Core.Bool.{true, false, ◌&&◌}
-use mathlib.Core.Option.{Option, none, some}
+use Rattle.std.specs.Prelude.{Option, None, Some}
 use mathlib.Core.List.{List, [], ◌∷◌}
 use Prim.Native.Nat.{ℕ}
 use lib.Dec.{eqb}
@@ -26,7 +26,7 @@ module _ (n : ℕ) (d : Device) (a : Act) where
   abbrev unhindered : Reply
   unhindered = serve (not_full (around d n)) n (record_of n d.places) a
 
-  solo_perform : perform_of (solo n d) a (some n) ≡ record { refusal = unhindered.refusal; answers = unhindered.answers; device = solo_of n (seen_after unhindered.next (seen n d)) }
+  solo_perform : perform_of (solo n d) a (Some n) ≡ record { refusal = unhindered.refusal; answers = unhindered.answers; device = solo_of n (seen_after unhindered.next (seen n d)) }
   solo_perform =
       (λ i. record { refusal = (there i).refusal; answers = (there i).answers; device = put_back n (there i).next (solo n d) })
       ∙ ap (λ (x : Device). record { refusal = unhindered.refusal; answers = unhindered.answers; device = x }) (solo_put n unhindered.next (seen n d))
@@ -35,7 +35,7 @@ module _ (n : ℕ) (d : Device) (a : Act) where
       there = ap₂ (λ (x : Surroundings) (r : Option Stream). serve x n r a) (solo_around n d) (solo_record n (seen n d))
 
 -- the same step on the whole device and alone
-module _ (n : ℕ) (d : Device) (s : Step) (o : stream_of s.act ≡ some n) (z : Sized d) (h : out_of_memory_at (event_of s (step_on d s)) ≡ false) where
+module _ (n : ℕ) (d : Device) (s : Step) (o : stream_of s.act ≡ Some n) (z : Sized d) (h : out_of_memory_at (event_of s (step_on d s)) ≡ false) where
   abbrev self : Option Stream
   self = record_of n d.places
 
@@ -45,7 +45,7 @@ module _ (n : ℕ) (d : Device) (s : Step) (o : stream_of s.act ≡ some n) (z :
   abbrev Same : DeviceReply → DeviceReply → Type 0
   Same x y = y ≡ record { refusal = x.refusal; answers = x.answers; device = solo n x.device }
 
-  performed : step_on d s ≡ perform_of d s.act (some n) → Same (perform_of d s.act (some n)) (perform_of (solo n d) s.act (some n))
+  performed : step_on d s ≡ perform_of d s.act (Some n) → Same (perform_of d s.act (Some n)) (perform_of (solo n d) s.act (Some n))
   unfolding out_of_memory_at
   performed e =
       let sv : served ≡ serve (not_full (around d n)) n self s.act =
@@ -58,8 +58,8 @@ module _ (n : ℕ) (d : Device) (s : Step) (o : stream_of s.act ≡ some n) (z :
   same_step =
       decide (eqb (room_refusal s) 0)
       (λ e.
-      let runs : step_on d s ≡ perform_of d s.act (some n) = step_runs d s e ∙ ap (perform_of d s.act) o in
-      let there : step_on (solo n d) s ≡ perform_of (solo n d) s.act (some n) = step_runs (solo n d) s e ∙ ap (perform_of (solo n d) s.act) o in
+      let runs : step_on d s ≡ perform_of d s.act (Some n) = step_runs d s e ∙ ap (perform_of d s.act) o in
+      let there : step_on (solo n d) s ≡ perform_of (solo n d) s.act (Some n) = step_runs (solo n d) s e ∙ ap (perform_of (solo n d) s.act) o in
       subst (λ (x : DeviceReply). Same x (step_on (solo n d) s)) (sym runs) (there ∙ performed runs))
       (λ e. subst (λ (x : DeviceReply). Same x (step_on (solo n d) s)) (sym (step_refused d s e)) (step_refused (solo n d) s e))
 
@@ -71,8 +71,8 @@ other_step n d s b =
     (λ e. ap (λ (x : DeviceReply). solo n x.device) (step_refused d s e))
   where
     of : (o : Option ℕ) → is_owner n o ≡ false → solo n (perform_of d s.act o).device ≡ solo n d
-    of none q = refl
-    of (some m) q = ap (solo_of n) (other_seen n m d s.act q)
+    of None q = refl
+    of (Some m) q = ap (solo_of n) (other_seen n m d s.act q)
 
 -- the device serves the stream that the step belongs to
 pub serves_owner : (a : Act) → stream_of a ≡ owner_of a
@@ -81,9 +81,9 @@ serves_owner (command t f) = refl
 serves_owner (finish n qt r flags ts) = refl
 serves_owner (drained n) = refl
 
-pub owner_is : (n : ℕ) (o : Option ℕ) → is_owner n o ≡ true → o ≡ some n
-owner_is n none e = never (sym e)
-owner_is n (some m) e = ap some (eqb-true m n e)
+pub owner_is : (n : ℕ) (o : Option ℕ) → is_owner n o ≡ true → o ≡ Some n
+owner_is n None e = never (sym e)
+owner_is n (Some m) e = ap Some (eqb-true m n e)
 
 -- The whole list
 

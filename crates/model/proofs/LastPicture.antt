@@ -3,7 +3,7 @@ use Prim.Native.Nat.{ℕ, suc, ◌+◌, ◌≤◌}
 use native.Mathlib.Omega.{arith}
 use mathlib.Core.Path.{◌≡◌, refl, sym, ap, ap₂, ◌∙◌, subst}
 use mathlib.Core.Bool.{Bool, true, false, cond, not, ◌&&◌, and-false, or-false}
-use mathlib.Core.Option.{Option, none, some}
+use Rattle.std.specs.Prelude.{Option, None, Some}
 use mathlib.Core.List.{List, [], ◌∷◌, ◌++◌, map, append-nil, map-append, head-eq_of_cons-eq, tail-eq_of_cons-eq}
 use lib.ListN.{length, length-map, length-append}
 use lib.Dec.{eqb, leb}
@@ -165,7 +165,7 @@ two_parts n r flags ts s t before e x y is two one each_x each_y bytes inputs =
 
 -- a step that is accepted is one of its stream, and is accepted there
 pub record Taken (d : Device) (s : Step) (n : ℕ) : Type 0 where
-  pub runs : step_on d s ≡ perform_of d s.act (some n)
+  pub runs : step_on d s ≡ perform_of d s.act (Some n)
   pub replied : accepted_reply (serve (around d n) n (record_of n d.places) s.act) ≡ true
 
 pub step_taken : (d : Device) (s : Step) → well_formed d ≡ true → good_act s.act ≡ true → accepted (event_of s (step_on d s)) ≡ true → Taken d s (step_stream s.act)
@@ -196,10 +196,10 @@ eos_taken around n qt r flags ts self last =
     (λ b q i h y. of b q i b.draining refl h)
   where
     of : (b : Stream) (q : QueueType) (i : Buffer) (t : Option ℕ) → b.draining ≡ t → FinishTaken self qt r flags b q i
-        → EosTaken n qt flags ts self (reply (finish_answers n flags ts b q i) (some (finish_leaves r flags b q)))
+        → EosTaken n qt flags ts self (reply (finish_answers n flags ts b q i) (Some (finish_leaves r flags b q)))
     of b input i t e h = never (simp last at h.eos_fits)
-    of b output i none e h = never (simp (last, e) at h.eos_fits)
-    of b output i (some t) e h =
+    of b output i None e h = never (simp (last, e) at h.eos_fits)
+    of b output i (Some t) e h =
         record {
           is_output = named_number qt output h.named_is;
           inputs = ap (λ (x : Option Stream). (holding x).queued input) h.self_is ∙ no_inputs b (simp last at h.not_early);
@@ -213,7 +213,7 @@ eos_taken around n qt r flags ts self last =
 -- a drained report: no input is Queued, and there is no output resource
 record OverTaken (self : Option Stream) : Type 0 where
   stream : Stream
-  is : self ≡ some stream
+  is : self ≡ Some stream
   inputs : (holding self).queued input ≡ []
   outputs : has_outputs stream ≡ false
 

@@ -2,7 +2,7 @@
 use Prim.Native.Nat.{ℕ}
 use mathlib.Core.Path.{◌≡◌, refl, sym, ap, ap₂, ◌∙◌}
 use mathlib.Core.Bool.{Bool, true, false, cond, not, ◌&&◌}
-use mathlib.Core.Option.{Option, none, some}
+use Rattle.std.specs.Prelude.{Option, None, Some}
 use mathlib.Core.List.{List, [], ◌∷◌, ◌++◌, map, map-append}
 use lib.Dec.{eqb}
 use borrow.Author.Tests.{eqb-true}
@@ -52,9 +52,9 @@ pick t v = record { queued = λ q. keep (λ i. t (to_buffer (queue_number q) i.r
 
 -- one pending answer more
 abbrev pub more : Option Awaited → ℕ → View → View
-more none t v = v
-more (some (to_buffer qt r ts)) t v = record { queued = λ q. cond (eqb qt (queue_number q)) (insert_by by_res (buffer r t ts) (v.queued q)) (v.queued q); drains = v.drains }
-more (some to_drain) t v = record { queued = v.queued; drains = t ∷ v.drains }
+more None t v = v
+more (Some (to_buffer qt r ts)) t v = record { queued = λ q. cond (eqb qt (queue_number q)) (insert_by by_res (buffer r t ts) (v.queued q)) (v.queued q); drains = v.drains }
+more (Some to_drain) t v = record { queued = v.queued; drains = t ∷ v.drains }
 
 abbrev pub buffer_tickets : List Buffer → List ℕ
 buffer_tickets = map (λ (i : Buffer). i.ticket)
@@ -112,23 +112,23 @@ tickets_in_order l = simp (map-append, tickets_buffers)
 
 view_more : (k t n : ℕ) (w : Option Awaited) (l : List Pending) → view_of (pending k t n w ++ l) ≡ more w t (view_of l)
 unfolding view_of
-view_more k t n none l = refl
-view_more k t n (some (to_buffer qt r ts)) l = λ i. record { queued = λ q. here q i; drains = tickets_in (keep (awaits is_drain) l) }
+view_more k t n None l = refl
+view_more k t n (Some (to_buffer qt r ts)) l = λ i. record { queued = λ q. here q i; drains = tickets_in (keep (awaits is_drain) l) }
   where
     new : Pending
     new = record { step_number = k; ticket = t; stream = n; awaited = to_buffer qt r ts }
 
     here : (q : QueueType) → buffers_in q (new ∷ l) ≡ cond (eqb qt (queue_number q)) (insert_by by_res (buffer r t ts) (buffers_in q l)) (buffers_in q l)
     here q = decide (eqb qt (queue_number q)) (λ e. simp e (map_insert_by awaited_buffer number by_res (λ p. refl) new (by_number (keep (awaits (is_buffer_of (queue_number q))) l)))) (λ e. simp e)
-view_more k t n (some to_drain) l = refl
+view_more k t n (Some to_drain) l = refl
 
 to_own : (k t n : ℕ) (w : Option Awaited) → keep (is_to n) (pending k t n w) ≡ pending k t n w
-to_own k t n none = refl
-to_own k t n (some w) = simp (eqb_same n)
+to_own k t n None = refl
+to_own k t n (Some w) = simp (eqb_same n)
 
 to_other : (k t n m : ℕ) (w : Option Awaited) → eqb n m ≡ false → keep (is_to m) (pending k t n w) ≡ []
-to_other k t n m none h = refl
-to_other k t n m (some w) h = simp h
+to_other k t n m None h = refl
+to_other k t n m (Some w) h = simp h
 
 left : (x y : Bool) → (not (x && y) && x) ≡ (x && not y)
 left true true = refl

@@ -2,7 +2,7 @@
 use mathlib.Core.Logic.{∥∥₁_elim}
 use mathlib.Core.Path.{◌≡◌, refl, sym, ap, ap₂, ◌∙◌, subst}
 use mathlib.Core.Bool.{Bool, true, false, cond, ◌&&◌, and-true, Bool-set}
-use mathlib.Core.Option.{Option, none, some}
+use Rattle.std.specs.Prelude.{Option, None, Some}
 use mathlib.Core.List.Perm
 use mathlib.Core.List.{List, [], ◌∷◌, ◌++◌, Perm, Perm-prop, Permᴰ, is_set}
 use Prim.Native.Nat.{ℕ, ◌<◌}
@@ -60,7 +60,7 @@ alike_sym output input m r h = refl
 alike_sym output output m r h = eqb_sym m r h
 
 -- a buffer waits as before where another is Dequeued
-still_waiting : (p q : QueueType) (m r : ℕ) (b : Stream) → waiting q r (dequeue p m b) ≡ cond (alike p q m r) none (waiting q r b)
+still_waiting : (p q : QueueType) (m r : ℕ) (b : Stream) → waiting q r (dequeue p m b) ≡ cond (alike p q m r) None (waiting q r b)
 still_waiting input input m r b = buffer_finish m r b.inputs.slots
 still_waiting input output m r b = refl
 still_waiting output input m r b = refl
@@ -103,13 +103,13 @@ module _ {n : ℕ} {s : Step} (x : Report n s) where
 
   -- where its buffer waits it is accepted: that is answered and Dequeued
   abbrev done_on : Device → Stream → Buffer → DeviceReply
-  done_on d b i = record { refusal = 0; answers = finish_answer i ∷ []; device = put_back n (some (leaves_of b)) d }
+  done_on d b i = record { refusal = 0; answers = finish_answer i ∷ []; device = put_back n (Some (leaves_of b)) d }
 
-  does : (d : Device) (b : Stream) (i : Buffer) → record_of n d.places ≡ some b → waits_in b ≡ some i → step_on d s ≡ done_on d b i
+  does : (d : Device) (b : Stream) (i : Buffer) → record_of n d.places ≡ Some b → waits_in b ≡ Some i → step_on d s ≡ done_on d b i
   unfolding serve stream_of
   does d b i self waits =
       let no_eos : has_eos x.flags ≡ false = lt-leb 2 x.flags x.low in
-      let served : serve (around d n) n (record_of n d.places) (finish n (queue_number x.queue) x.number x.flags x.timestamp) ≡ reply (finish_answer i ∷ []) (some (leaves_of b)) =
+      let served : serve (around d n) n (record_of n d.places) (finish n (queue_number x.queue) x.number x.flags x.timestamp) ≡ reply (finish_answer i ∷ []) (Some (leaves_of b)) =
       finish_by_tests n (queue_number x.queue) x.number x.flags x.timestamp (record_of n d.places) b x.queue i (le-ltb 3 x.flags (omega (arith, x.low)))
       (record { self_is = self; named_is = number_names x.queue; waits_is = waits; eos_fits = simp no_eos; not_early = simp no_eos })
       ∙ simp no_eos in
@@ -118,29 +118,29 @@ module _ {n : ℕ} {s : Step} (x : Report n s) where
       ∙ ap (λ (v : Reply). record { refusal = v.refusal; answers = v.answers; device = put_back n v.next d }) served
 
 -- of two records put back for a live number only the last is left
-put_back_twice : (n : ℕ) (c : Stream) (r : Option Stream) (d : Device) → is_none (record_of n d.places) ≡ false → put_back n r (put_back n (some c) d) ≡ put_back n r d
+put_back_twice : (n : ℕ) (c : Stream) (r : Option Stream) (d : Device) → is_none (record_of n d.places) ≡ false → put_back n r (put_back n (Some c) d) ≡ put_back n r d
 put_back_twice n c r d live = λ i. record { places = put_twice n c r d.places live i; spent = spent i }
   where
-    spent : (put_back n r (put_back n (some c) d)).spent ≡ (put_back n r d).spent
-    spent = simp (ap is_none (put_live n (some c) d.places live), live)
+    spent : (put_back n r (put_back n (Some c) d)).spent ≡ (put_back n r d).spent
+    spent = simp (ap is_none (put_live n (Some c) d.places live), live)
 
 -- two of them, the second of a buffer that waits in what the first leaves
 module _ {n : ℕ} {s u : Step} (x : Report n s) (y : Report n u) (d : Device) (b : Stream) (i j : Buffer) where
   record Both : Type 0 where
     events : events_of d (s ∷ u ∷ []) ≡ event_to x i ∷ event_to y j ∷ []
-    device : final d (s ∷ u ∷ []) ≡ put_back n (some (leaves_of y (leaves_of x b))) d
+    device : final d (s ∷ u ∷ []) ≡ put_back n (Some (leaves_of y (leaves_of x b))) d
 
-  both_do : record_of n d.places ≡ some b → waits_in x b ≡ some i → waits_in y (leaves_of x b) ≡ some j → Both
+  both_do : record_of n d.places ≡ Some b → waits_in x b ≡ Some i → waits_in y (leaves_of x b) ≡ Some j → Both
   both_do self first second =
       let c = leaves_of x b in
       let e = (step_on d s).device in
       let live : is_none (record_of n d.places) ≡ false = ap is_none self in
       let one = does x d b i self first in
-      let left : e ≡ put_back n (some c) d = ap (λ (o : DeviceReply). o.device) one in
-      let two = does y e c j (ap (λ (z : Device). record_of n z.places) left ∙ put_live n (some c) d.places live) second in
+      let left : e ≡ put_back n (Some c) d = ap (λ (o : DeviceReply). o.device) one in
+      let two = does y e c j (ap (λ (z : Device). record_of n z.places) left ∙ put_live n (Some c) d.places live) second in
       record {
         events = ap₂ (λ (v w : Event). v ∷ w ∷ []) (ap (event_of s) one) (ap (event_of u) two);
-        device = ap (λ (o : DeviceReply). o.device) two ∙ ap (put_back n (some (leaves_of y c))) left ∙ put_back_twice n c (some (leaves_of y c)) d live;
+        device = ap (λ (o : DeviceReply). o.device) two ∙ ap (put_back n (Some (leaves_of y c))) left ∙ put_back_twice n c (Some (leaves_of y c)) d live;
       }
 
 -- What an accepted one found
@@ -149,8 +149,8 @@ record Answered (n : ℕ) (d : Device) (s : Step) : Type 0 where
   report : Report n s
   self : Stream
   buffer : Buffer
-  self_is : record_of n d.places ≡ some self
-  waits_is : waits_in report self ≡ some buffer
+  self_is : record_of n d.places ≡ Some self
+  waits_is : waits_in report self ≡ Some buffer
 
 module _ (n : ℕ) (d : Device) (s : Step) (h : well_formed d ≡ true) (m : good_act s.act ≡ true) (run : finished_without_eos n (event_of s (step_on d s)) ≡ true) where
   acc : accepted (event_of s (step_on d s)) ≡ true
@@ -207,19 +207,19 @@ module _ (n : ℕ) (d : Device) (s u : Step) where
     events : events_of d (u ∷ s ∷ []) ≡ swapped (events_of d (s ∷ u ∷ []))
 
   -- the second was of another buffer, which waited before too; and so does that of the first after it
-  swapped_reports : (x : Report n s) (y : Report n u) (b : Stream) (i j : Buffer) → record_of n d.places ≡ some b → waits_in x b ≡ some i → waits_in y (leaves_of x b) ≡ some j → SwappedOn
+  swapped_reports : (x : Report n s) (y : Report n u) (b : Stream) (i j : Buffer) → record_of n d.places ≡ Some b → waits_in x b ≡ Some i → waits_in y (leaves_of x b) ≡ Some j → SwappedOn
   unfolding same
   swapped_reports x y b i j self first second =
       let y_waits = still_waiting x.queue y.queue x.number y.number b in
       let x_waits = still_waiting y.queue x.queue y.number x.number b in
       decide (alike x.queue y.queue x.number y.number)
-      (λ e. let gone : none ≡ some j = sym (y_waits ∙ simp e) ∙ second in never (ap is_none gone))
+      (λ e. let gone : None ≡ Some j = sym (y_waits ∙ simp e) ∙ second in never (ap is_none gone))
       (λ e.
       let there = both_do x y d b i j self first second in
       let back = both_do y x d b j i self (sym (y_waits ∙ simp e) ∙ second) ((x_waits ∙ simp (alike_sym x.queue y.queue x.number y.number e)) ∙ first) in
       record {
         differ = ap₂ (λ (v w : Act). same (buffer_named v) (buffer_named w)) x.act_is y.act_is ∙ simp (and-true (eqb x.number y.number)) e;
-        device = back.device ∙ ap (λ (c : Stream). put_back n (some c) d) (sym (dequeue_commutes x.queue y.queue x.number y.number b e)) ∙ sym there.device;
+        device = back.device ∙ ap (λ (c : Stream). put_back n (Some c) d) (sym (dequeue_commutes x.queue y.queue x.number y.number b e)) ∙ sym there.device;
         events = back.events ∙ ap swapped (sym there.events);
       })
 
@@ -231,10 +231,10 @@ module _ (n : ℕ) (d : Device) (s u : Step) where
       let second = found n (step_on d s).device u (stays_well_formed d s h good.0) good.1.0 each.1.0 in
       let b = first.self in
       let x = first.report in
-      let same_record : some second.self ≡ some (leaves_of x b) =
+      let same_record : Some second.self ≡ Some (leaves_of x b) =
       sym second.self_is
       ∙ ap (λ (o : DeviceReply). record_of n o.device.places) (does x d b first.buffer first.self_is first.waits_is)
-      ∙ put_live n (some (leaves_of x b)) d.places (ap is_none first.self_is) in
+      ∙ put_live n (Some (leaves_of x b)) d.places (ap is_none first.self_is) in
       let is : second.self ≡ leaves_of x b = cc in
       swapped_reports x second.report b first.buffer second.buffer first.self_is first.waits_is (ap (waits_in second.report) (sym is) ∙ second.waits_is)
 

@@ -2,7 +2,7 @@
 use Prim.Native.Nat.{ℕ}
 use mathlib.Core.Path.{◌≡◌, refl, sym, ap, ◌∙◌, subst}
 use mathlib.Core.Bool.{Bool, true, false, not}
-use mathlib.Core.Option.{Option, none, some}
+use Rattle.std.specs.Prelude.{Option, None, Some}
 use mathlib.Core.List.{List, [], ◌∷◌}
 use lib.Dec.{eqb}
 use borrow.Author.Tests.{eqb-true}
@@ -28,50 +28,50 @@ module _ (n : ℕ) (b : Stream) (ps : List Place) where
   pub alone_tail : distinct_places (occupied n b ∷ ps) ≡ true → distinct_places ps ≡ true
   alone_tail h = and_right (not (stands_in n (numbers_in place_number ps))) _ h
 
-replace_gone : (n : ℕ) (ps : List Place) → record_of n (replace n none ps) ≡ none
+replace_gone : (n : ℕ) (ps : List Place) → record_of n (replace n None ps) ≡ None
 replace_gone n [] = refl
 replace_gone n (vacant ∷ ps) = replace_gone n ps
 replace_gone n (occupied m b ∷ ps) = decide (eqb m n) (λ e. simp e (replace_gone n ps)) (λ e. simp e (replace_gone n ps))
 
 pub replace_same : (n : ℕ) (r : Option Stream) (ps : List Place) → is_none (record_of n ps) ≡ false → record_of n (replace n r ps) ≡ r
-replace_same n none ps h = replace_gone n ps
-replace_same n (some c) [] h = cc
-replace_same n (some c) (vacant ∷ ps) h = replace_same n (some c) ps h
-replace_same n (some c) (occupied m b ∷ ps) h =
-    decide (eqb m n) (λ e. simp (e, eqb_same n)) (λ e. simp e (replace_same n (some c) ps (simp e at h)))
+replace_same n None ps h = replace_gone n ps
+replace_same n (Some c) [] h = cc
+replace_same n (Some c) (vacant ∷ ps) h = replace_same n (Some c) ps h
+replace_same n (Some c) (occupied m b ∷ ps) h =
+    decide (eqb m n) (λ e. simp (e, eqb_same n)) (λ e. simp e (replace_same n (Some c) ps (simp e at h)))
 
 pub replace_other : (m n : ℕ) (r : Option Stream) (ps : List Place) → eqb n m ≡ false → record_of m (replace n r ps) ≡ record_of m ps
 replace_other m n r [] h = refl
 replace_other m n r (vacant ∷ ps) h = replace_other m n r ps h
-replace_other m n none (occupied k b ∷ ps) h =
-    decide (eqb k n) (λ e. simp (e, replace_other m n none ps h, ap (λ (x : ℕ). eqb x m) (eqb-true k n e), h)) (λ e. simp (e, replace_other m n none ps h))
-replace_other m n (some c) (occupied k b ∷ ps) h =
-    decide (eqb k n) (λ e. simp (e, replace_other m n (some c) ps h, ap (λ (x : ℕ). eqb x m) (eqb-true k n e), h)) (λ e. simp (e, replace_other m n (some c) ps h))
+replace_other m n None (occupied k b ∷ ps) h =
+    decide (eqb k n) (λ e. simp (e, replace_other m n None ps h, ap (λ (x : ℕ). eqb x m) (eqb-true k n e), h)) (λ e. simp (e, replace_other m n None ps h))
+replace_other m n (Some c) (occupied k b ∷ ps) h =
+    decide (eqb k n) (λ e. simp (e, replace_other m n (Some c) ps h, ap (λ (x : ℕ). eqb x m) (eqb-true k n e), h)) (λ e. simp (e, replace_other m n (Some c) ps h))
 
 pub replace_absent : (n : ℕ) (r : Option Stream) (ps : List Place) → is_none (record_of n ps) ≡ true → replace n r ps ≡ ps
 replace_absent n r [] h = refl
 replace_absent n r (vacant ∷ ps) h = ap (λ x. vacant ∷ x) (replace_absent n r ps h)
 replace_absent n r (occupied m b ∷ ps) h = decide (eqb m n) (λ e. never (sym (simp e at h))) (λ e. simp (e, replace_absent n r ps (simp e at h)))
 
-pub install_none : (n : ℕ) (ps : List Place) → install n none ps ≡ ps
+pub install_none : (n : ℕ) (ps : List Place) → install n None ps ≡ ps
 install_none n [] = refl
 install_none n (vacant ∷ ps) = refl
 install_none n (occupied m b ∷ ps) = ap (λ r. occupied m b ∷ r) (install_none n ps)
 
 pub install_same : (n : ℕ) (r : Option Stream) (ps : List Place) → is_none (record_of n ps) ≡ true → no_place ps ≡ false → record_of n (install n r ps) ≡ r
 install_same n r [] h k = cc
-install_same n none (vacant ∷ ps) h k = none_is _ h
-install_same n (some c) (vacant ∷ ps) h k = simp (eqb_same n)
+install_same n None (vacant ∷ ps) h k = none_is _ h
+install_same n (Some c) (vacant ∷ ps) h k = simp (eqb_same n)
 install_same n r (occupied m b ∷ ps) h k = decide (eqb m n) (λ e. never (sym (simp e at h))) (λ e. simp e (install_same n r ps (simp e at h) k))
 
 pub install_other : (m n : ℕ) (r : Option Stream) (ps : List Place) → eqb n m ≡ false → record_of m (install n r ps) ≡ record_of m ps
 install_other m n r [] h = refl
-install_other m n none (vacant ∷ ps) h = refl
-install_other m n (some c) (vacant ∷ ps) h = simp h
+install_other m n None (vacant ∷ ps) h = refl
+install_other m n (Some c) (vacant ∷ ps) h = simp h
 install_other m n r (occupied k b ∷ ps) h = simp (install_other m n r ps h)
 
 -- a record that is put back is found again; a new one only where a place is vacant
-pub put_same : (n : ℕ) (r : Option Stream) (ps : List Place) → (is_none (record_of n ps) ≡ true → no_place ps ≡ true → r ≡ none) → record_of n (put_record n r ps) ≡ r
+pub put_same : (n : ℕ) (r : Option Stream) (ps : List Place) → (is_none (record_of n ps) ≡ true → no_place ps ≡ true → r ≡ None) → record_of n (put_record n r ps) ≡ r
 unfolding put_record
 put_same n r ps h =
     decide (is_none (record_of n ps))
@@ -84,14 +84,14 @@ put_same n r ps h =
 pub put_live : (n : ℕ) (r : Option Stream) (ps : List Place) → is_none (record_of n ps) ≡ false → record_of n (put_record n r ps) ≡ r
 put_live n r ps live = put_same n r ps (λ e _. never (sym e ∙ live))
 
-replace_twice : (n : ℕ) (b : Stream) (r : Option Stream) (ps : List Place) → replace n r (replace n (some b) ps) ≡ replace n r ps
+replace_twice : (n : ℕ) (b : Stream) (r : Option Stream) (ps : List Place) → replace n r (replace n (Some b) ps) ≡ replace n r ps
 replace_twice n b r [] = refl
 replace_twice n b r (vacant ∷ ps) = ap (λ x. vacant ∷ x) (replace_twice n b r ps)
 replace_twice n b r (occupied m c ∷ ps) = decide (eqb m n) (λ e. simp (e, eqb_same n, replace_twice n b r ps)) (λ e. simp (e, replace_twice n b r ps))
 
-pub put_twice : (n : ℕ) (b : Stream) (r : Option Stream) (ps : List Place) → is_none (record_of n ps) ≡ false → put_record n r (put_record n (some b) ps) ≡ put_record n r ps
+pub put_twice : (n : ℕ) (b : Stream) (r : Option Stream) (ps : List Place) → is_none (record_of n ps) ≡ false → put_record n r (put_record n (Some b) ps) ≡ put_record n r ps
 unfolding put_record
-put_twice n b r ps h = simp (h, ap is_none (replace_same n (some b) ps h)) (replace_twice n b r ps)
+put_twice n b r ps h = simp (h, ap is_none (replace_same n (Some b) ps h)) (replace_twice n b r ps)
 
 pub put_other : (m n : ℕ) (r : Option Stream) (ps : List Place) → eqb n m ≡ false → record_of m (put_record n r ps) ≡ record_of m ps
 unfolding put_record
@@ -111,8 +111,8 @@ replace_self n (occupied m b ∷ ps) h =
     subst (λ (r : Option Stream). replace n r (occupied m b ∷ ps) ≡ occupied m b ∷ ps) (sym other) (behind e (record_of n ps) (replace_self n ps (alone_tail m b ps h))))
   where
     behind : eqb m n ≡ false → (r : Option Stream) → replace n r ps ≡ ps → replace n r (occupied m b ∷ ps) ≡ occupied m b ∷ ps
-    behind e none same = simp e (ap (λ x. occupied m b ∷ x) same)
-    behind e (some c) same = simp e (ap (λ x. occupied m b ∷ x) same)
+    behind e None same = simp e (ap (λ x. occupied m b ∷ x) same)
+    behind e (Some c) same = simp e (ap (λ x. occupied m b ∷ x) same)
 
 pub put_self : (n : ℕ) (ps : List Place) → distinct_places ps ≡ true → put_record n (record_of n ps) ps ≡ ps
 unfolding put_record

@@ -1,7 +1,7 @@
 -- The bytes of a step's answers are read back into answers, and a response's type says whether it is an error.
 use mathlib.Core.Path.{◌≡◌, refl, ap, ◌∙◌, subst}
 use mathlib.Core.Bool.{Bool, true, false, ◌&&◌}
-use mathlib.Core.Option.{Option, none, some}
+use Rattle.std.specs.Prelude.{Option, None, Some}
 use mathlib.Core.List.{List, [], ◌∷◌, ◌++◌, map}
 use Prim.Native.Nat.{ℕ, zero, suc, ◌+◌, ◌*◌, ◌^◌, ◌<◌, ◌≤◌}
 use native.Mathlib.Omega.{arith}
@@ -134,11 +134,11 @@ queued_good (resource m (queued t ts) ∷ s) h =
     both (and_left (u32 t) _ (and_right (u32 m) _ (and_left (good_slot (resource m (queued t ts))) _ h))) (queued_good s (and_right (good_slot (resource m (queued t ts))) _ h))
 queued_good (resource m dequeued ∷ s) h = queued_good s (and_right (good_slot (resource m dequeued)) _ h)
 
-found_good : (r : ℕ) (i : Buffer) (l : List Buffer) → all_of good_buffer l ≡ true → buffer_of r l ≡ some i → good_buffer i ≡ true
+found_good : (r : ℕ) (i : Buffer) (l : List Buffer) → all_of good_buffer l ≡ true → buffer_of r l ≡ Some i → good_buffer i ≡ true
 found_good r i [] h e = cc
 found_good r i (x ∷ l) h e =
     decide (eqb x.resource r)
-    (λ z. let is : some x ≡ some i = simp z at e in let same : x ≡ i = cc in subst (λ y. good_buffer y ≡ true) same (and_left (good_buffer x) _ h))
+    (λ z. let is : Some x ≡ Some i = simp z at e in let same : x ≡ i = cc in subst (λ y. good_buffer y ≡ true) same (and_left (good_buffer x) _ h))
     (λ z. found_good r i l (and_right (good_buffer x) _ h) (simp z at e))
 
 queue_small : (q : QueueType) (b : Stream) → GoodStream b → all_of good_buffer (queued_in (queue_of q b).slots) ≡ true
@@ -152,8 +152,8 @@ stopped_readable n q b g =
 
 drain_good : (n : ℕ) (d : Option ℕ) → good_drain d ≡ true → all_of good_answer (drain_answers n d) ≡ true
 unfolding u32
-drain_good n none h = refl
-drain_good n (some t) h = both (answer_good t n drain_done h refl) refl
+drain_good n None h = refl
+drain_good n (Some t) h = both (answer_good t n drain_done h refl) refl
 
 ended_good : (ends : Bool) (b : Stream) → GoodStream b → good_drain (drain_ended ends b) ≡ true
 ended_good true b g = g.draining

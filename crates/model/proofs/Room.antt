@@ -1,6 +1,6 @@
 -- A step writes no more than the room that it must be lent.
 use mathlib.Core.Path.{◌≡◌, refl, subst}
-use mathlib.Core.Option.{Option, none, some}
+use Rattle.std.specs.Prelude.{Option, None, Some}
 use mathlib.Core.List.{List, [], ◌∷◌, ◌++◌}
 use Prim.Native.Nat.{ℕ, ◌+◌, ◌*◌, ◌≤◌}
 use native.Mathlib.Omega.{arith}
@@ -38,8 +38,8 @@ size_stopped n q [] = refl
 size_stopped n q (i ∷ l) = omega (arith, size_cons i.ticket n (buffer_done q i.timestamp err) (stopped_answers n q l), size_stopped n q l)
 
 size_drain : (n : ℕ) (d : Option ℕ) → size (drain_answers n d) ≤ 16
-size_drain n none = omega arith
-size_drain n (some t) = omega (arith, size_cons t n drain_done [])
+size_drain n None = omega arith
+size_drain n (Some t) = omega (arith, size_cons t n drain_done [])
 
 pub length_queued : (s : List Slot) → length (queued_in s) ≤ length s
 length_queued [] = omega arith

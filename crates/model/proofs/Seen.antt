@@ -1,7 +1,7 @@
 -- What a step sees of its own number and of the other streams.
 use mathlib.Core.Path.{◌≡◌, refl, sym, ap, ◌∙◌}
 use mathlib.Core.Bool.{Bool, true, false, cond, not, ◌&&◌, ◌||◌, or-true, or-false}
-use mathlib.Core.Option.{Option, none, some}
+use Rattle.std.specs.Prelude.{Option, None, Some}
 use mathlib.Core.List.{List, ◌∷◌}
 use Prim.Native.Nat.{ℕ, ◌≤◌}
 use native.Mathlib.Omega.{arith}
@@ -37,27 +37,27 @@ not_full around = with_full false around
 
 -- the number of a live stream may not be taken again
 abbrev pub NotAgain : Surroundings → Option Stream → Type 0
-NotAgain around none = Unit {0}
-NotAgain around (some b) = around.unusable ≡ true
+NotAgain around None = Unit {0}
+NotAgain around (Some b) = around.unusable ≡ true
 
 -- Where every place holds something, or the number may not be taken, no step brings a stream to life
 
 abbrev StaysNone : Reply → Type 0
-StaysNone v = v.next ≡ none
+StaysNone v = v.next ≡ None
 
 module _ (around : Surroundings) (h : (around.full || around.unusable) ≡ true) (n : ℕ) where
-  request_next : (t : ℕ) (f : List ℕ) (l : Option CommandRule) → StaysNone (on_rule around (record { stream = n; ticket = t; frame = f; self = none }) l)
+  request_next : (t : ℕ) (f : List ℕ) (l : Option CommandRule) → StaysNone (on_rule around (record { stream = n; ticket = t; frame = f; self = None }) l)
   unfolding on_create
-  request_next t f none = refl
-  request_next t f (some l) = cond_elim StaysNone (wrong_length l.length_rule (length f)) (λ _. refl) (λ _. of l.command)
+  request_next t f None = refl
+  request_next t f (Some l) = cond_elim StaysNone (wrong_length l.length_rule (length f)) (λ _. refl) (λ _. of l.command)
     where
-      of : (x : Command) → StaysNone (on_stream around (record { stream = n; ticket = t; frame = f; self = none }) x none)
+      of : (x : Command) → StaysNone (on_stream around (record { stream = n; ticket = t; frame = f; self = None }) x None)
       of create =
           cond_elim StaysNone around.unusable (λ _. refl)
-          (λ u. tests_cases StaysNone (fail (record { stream = n; ticket = t; frame = f; self = none })) _ (λ e. refl) (λ h₁ h₂ h₃ h₄ h₅. never (sym (simp (h₅, u) at h))))
+          (λ u. tests_cases StaysNone (fail (record { stream = n; ticket = t; frame = f; self = None })) _ (λ e. refl) (λ h₁ h₂ h₃ h₄ h₅. never (sym (simp (h₅, u) at h))))
       of (live k) = refl
 
-  pub serve_next : (a : Act) → StaysNone (serve around n none a)
+  pub serve_next : (a : Act) → StaysNone (serve around n None a)
   unfolding serve on_command on_finish on_drained
   serve_next (command t f) = request_next t f (rule_of (command_type f))
   serve_next (finish m qt r flags ts) = cond_elim StaysNone (ltb 3 flags) (λ _. refl) (λ _. refl)
@@ -88,13 +88,13 @@ stream_full around c create self h = of around.unusable h
         → cond u (fail c invalid_stream) (on_create (with_fullness around) c) ≡ cond u (fail c invalid_stream) (on_create (not_full around) c)
     of true h = refl
     of false h = create_full around c h
-stream_full around c (live k) none h = refl
-stream_full around c (live k) (some b) h = refl
+stream_full around c (live k) None h = refl
+stream_full around c (live k) (Some b) h = refl
 
 abbrev SameLine : Surroundings → Request → Bool → Option CommandRule → Type 0
 SameLine around c creation l = (creation && tells_full (on_rule (with_fullness around) c l)) ≡ false → on_rule (with_fullness around) c l ≡ on_rule (not_full around) c l
 
-line_full : (around : Surroundings) (c : Request) (l : CommandRule) → SameLine around c (creates l.command) (some l)
+line_full : (around : Surroundings) (c : Request) (l : CommandRule) → SameLine around c (creates l.command) (Some l)
 line_full around c l h =
     decide (wrong_length l.length_rule (length c.frame))
     (λ e. simp e)
@@ -138,12 +138,12 @@ room_enough s h = simp (le-ltb (length s.room) answer_room h)
 abbrev pub next_of : ℕ → Device → Act → Option Stream
 next_of n d a = (serve (around d n) n (record_of n d.places) a).next
 
-pub own_record : (n : ℕ) (d : Device) (a : Act) → record_of n (perform_of d a (some n)).device.places ≡ next_of n d a
+pub own_record : (n : ℕ) (d : Device) (a : Act) → record_of n (perform_of d a (Some n)).device.places ≡ next_of n d a
 own_record n d a =
     put_same n _ d.places
     (λ e f. ap (λ (r : Option Stream). (serve (around d n) n r a).next) (none_is (record_of n d.places) e) ∙ serve_next (around d n) (simp f) n a)
 
-pub other_record : (m n : ℕ) (d : Device) (a : Act) → eqb n m ≡ false → record_of m (perform_of d a (some n)).device.places ≡ record_of m d.places
+pub other_record : (m n : ℕ) (d : Device) (a : Act) → eqb n m ≡ false → record_of m (perform_of d a (Some n)).device.places ≡ record_of m d.places
 other_record m n d a h = put_other m n _ d.places h
 
 -- What a step can see of its own number. The argument over lists (Isolation) is about this alone.
@@ -202,11 +202,11 @@ after_other : (m n : ℕ) (old next : Option Stream) (s : List Bool) → eqb n m
 after_other m n old next s h = cond_elim (λ (x : List Bool). is_spent m x ≡ is_spent m s) (is_new old next) (λ _. spend_other n s m h) (λ _. refl)
 
 -- after a step of n, and after one of another stream
-pub own_seen : (n : ℕ) (d : Device) (a : Act) → Sized d → seen n (perform_of d a (some n)).device ≡ seen_after (next_of n d a) (seen n d)
+pub own_seen : (n : ℕ) (d : Device) (a : Act) → Sized d → seen n (perform_of d a (Some n)).device ≡ seen_after (next_of n d a) (seen n d)
 unfolding seen_after
 own_seen n d a h = λ i. record { self = own_record n d a i; unusable = after_unusable n (record_of n d.places) (next_of n d a) d.spent h i }
 
-pub other_seen : (m n : ℕ) (d : Device) (a : Act) → eqb n m ≡ false → seen m (perform_of d a (some n)).device ≡ seen m d
+pub other_seen : (m n : ℕ) (d : Device) (a : Act) → eqb n m ≡ false → seen m (perform_of d a (Some n)).device ≡ seen m d
 other_seen m n d a h = λ i. record { self = other_record m n d a h i; unusable = not (ltb m stream_numbers) || after_other m n (record_of n d.places) (next_of n d a) d.spent h i }
 
 -- Where only the stream n was ever on a device
@@ -217,18 +217,18 @@ alone_places n r = place n r ∷ replicate 7 vacant
 
 alone_record : (n : ℕ) (r : Option Stream) → record_of n (alone_places n r) ≡ r
 unfolding alone_places
-alone_record n none = refl
-alone_record n (some b) = simp (eqb_same n)
+alone_record n None = refl
+alone_record n (Some b) = simp (eqb_same n)
 
 alone_vacant : (n : ℕ) (r : Option Stream) → no_place (alone_places n r) ≡ false
 unfolding alone_places
-alone_vacant n none = refl
-alone_vacant n (some b) = refl
+alone_vacant n None = refl
+alone_vacant n (Some b) = refl
 
 alone_put : (n : ℕ) (r x : Option Stream) → put_record n x (alone_places n r) ≡ alone_places n x
 unfolding alone_places put_record
-alone_put n none x = refl
-alone_put n (some b) x = simp (eqb_same n)
+alone_put n None x = refl
+alone_put n (Some b) x = simp (eqb_same n)
 
 -- its spent numbers
 alone_spent : ℕ → Bool → List Bool

@@ -3,7 +3,7 @@ use Prim.Native.Nat.{ℕ, suc, ◌≤◌}
 use native.Mathlib.Omega.{arith}
 use mathlib.Core.Path.{◌≡◌, refl, sym, ap, ◌∙◌}
 use mathlib.Core.Bool.{Bool, true, false, cond, not}
-use mathlib.Core.Option.{none, some}
+use Rattle.std.specs.Prelude.{None, Some}
 use mathlib.Core.List.{List, [], ◌∷◌}
 use lib.ListN.{length}
 use lib.Dec.{eqb}
@@ -51,10 +51,10 @@ queued_finish r (resource m (queued t ts) ∷ s) = decide (eqb m r) (λ e. simp 
 queued_finish r (resource m dequeued ∷ s) = decide (eqb m r) (λ e. simp e (queued_finish r s)) (λ e. simp e (queued_finish r s))
 
 -- the Queued buffer of a number after a finish of another, or of its own
-pub buffer_finish : (m r : ℕ) (s : List Slot) → buffer_of r (queued_in (set_state m dequeued s)) ≡ cond (eqb m r) none (buffer_of r (queued_in s))
+pub buffer_finish : (m r : ℕ) (s : List Slot) → buffer_of r (queued_in (set_state m dequeued s)) ≡ cond (eqb m r) None (buffer_of r (queued_in s))
 buffer_finish m r s = ap (buffer_of r) (queued_finish m s) ∙ of (queued_in s)
   where
-    of : (l : List Buffer) → buffer_of r (keep (λ i. not (is_res m i)) l) ≡ cond (eqb m r) none (buffer_of r l)
+    of : (l : List Buffer) → buffer_of r (keep (λ i. not (is_res m i)) l) ≡ cond (eqb m r) None (buffer_of r l)
     of [] = decide (eqb m r) (λ e. simp e) (λ e. simp e)
     of (i ∷ l) =
         decide (eqb i.resource m)
@@ -93,20 +93,20 @@ absent_set r p (free ∷ s) h = ap (λ l. free ∷ l) (absent_set r p s h)
 absent_set r p (resource m q ∷ s) h = simp (absent_head r m q s h, absent_set r p s (absent_tail r m q s h))
 
 -- the Queued buffer of a number is the only one
-pub queued_only : (r : ℕ) (i : Buffer) (s : List Slot) → Distinct s → buffer_of r (queued_in s) ≡ some i → keep (is_res r) (queued_in s) ≡ i ∷ []
+pub queued_only : (r : ℕ) (i : Buffer) (s : List Slot) → Distinct s → buffer_of r (queued_in s) ≡ Some i → keep (is_res r) (queued_in s) ≡ i ∷ []
 queued_only r i [] d h = cc
 queued_only r i (free ∷ s) d h = queued_only r i s d h
 queued_only r i (resource m created ∷ s) d h = queued_only r i s d.1 h
 queued_only r i (resource m (queued t ts) ∷ s) d h =
     decide (eqb m r)
-    (λ e. let same : some (buffer m t ts) ≡ some i = simp e at h in
+    (λ e. let same : Some (buffer m t ts) ≡ Some i = simp e at h in
     let is : buffer m t ts ≡ i = cc in
     simp (e, absent_keep r s (ap (λ x. present x s) (sym (eqb-true m r e)) ∙ d.0)) (ap (λ x. x ∷ []) is))
     (λ e. simp e (queued_only r i s d.1 (simp e at h)))
 queued_only r i (resource m dequeued ∷ s) d h = queued_only r i s d.1 h
 
 -- a queueing puts one buffer in its order
-pub queued_more : (r t ts : ℕ) (s : List Slot) → Distinct s → present r s ≡ true → buffer_of r (queued_in s) ≡ none
+pub queued_more : (r t ts : ℕ) (s : List Slot) → Distinct s → present r s ≡ true → buffer_of r (queued_in s) ≡ None
     → by_resource (queued_in (set_state r (queued t ts) s)) ≡ insert_by by_res (buffer r t ts) (by_resource (queued_in s))
 queued_more r t ts [] d p h = never (sym p)
 queued_more r t ts (free ∷ s) d p h = queued_more r t ts s d p h
@@ -116,7 +116,7 @@ queued_more r t ts (resource m created ∷ s) d p h =
     (λ e. simp e (queued_more r t ts s d.1 (simp e at p) h))
 queued_more r t ts (resource m (queued t₀ ts₀) ∷ s) d p h =
     decide (eqb m r)
-    (λ e. let z : some (buffer m t₀ ts₀) ≡ none = simp e at h in cc)
+    (λ e. let z : Some (buffer m t₀ ts₀) ≡ None = simp e at h in cc)
     (λ e. simp (e, queued_more r t ts s d.1 (simp e at p) (simp e at h)) (insert_by_comm by_res (buffer m t₀ ts₀) (buffer r t ts) (by_resource (queued_in s)) e))
 queued_more r t ts (resource m dequeued ∷ s) d p h =
     decide (eqb m r)

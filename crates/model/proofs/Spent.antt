@@ -3,7 +3,7 @@ use Prim.Native.Nat.{ℕ, ◌<◌, ◌≤◌}
 use native.Mathlib.Omega.{arith}
 use mathlib.Core.Path.{◌≡◌, refl, sym, ap, ◌∙◌, subst}
 use mathlib.Core.Bool.{Bool, true, false}
-use mathlib.Core.Option.{Option, none, some}
+use Rattle.std.specs.Prelude.{Option, None, Some}
 use mathlib.Core.List.{List}
 use lib.ListN.{length, length-set, length-replicate, replicate, set, get_or-replicate, get_or-eq_default}
 use lib.Seq.{get_or-set_same, get_or-set_other, set_out, set-get_or, set-set}
@@ -66,8 +66,8 @@ none_spent n =
 
 -- a step that leaves the record as it was brings none, and spends nothing
 pub not_new : (r : Option Stream) → is_new r r ≡ false
-not_new none = refl
-not_new (some b) = refl
+not_new None = refl
+not_new (Some b) = refl
 
 pub spent_self : (n : ℕ) (r : Option Stream) (s : List Bool) → spent_after n r r s ≡ s
 spent_self n r s = simp (not_new r)

@@ -2,7 +2,7 @@
 use Prim.Native.Nat.{ℕ, ◌≤◌}
 use mathlib.Core.Path.{◌≡◌, refl, sym, ap, ◌∙◌, subst}
 use mathlib.Core.Bool.{Bool, true, false, cond, not, ◌&&◌, ◌||◌, and-false, or-false, or_assoc}
-use mathlib.Core.Option.{Option, none, some}
+use Rattle.std.specs.Prelude.{Option, None, Some}
 use mathlib.Core.List.{List, [], ◌∷◌, ◌++◌, head-eq_of_cons-eq, tail-eq_of_cons-eq}
 use lib.ListN.{length}
 use lib.Dec.{eqb, ltb}
@@ -47,11 +47,11 @@ module _ (around : Surroundings) (n : ℕ) where
   -- a creation that is accepted found its number usable, and so not live
   stream_new : (t : ℕ) (f : List ℕ) (x : Command) (self : Option Stream) → NotAgain around self → NewExactly (creates x) self (on_stream around (request_of n t self f) x self)
   unfolding on_create
-  stream_new t f create none u =
-      cond_elim (NewExactly true none) around.unusable (λ _. refl) (λ _. tests_all (NewExactly true none) (fail (request_of n t none f)) _ (λ e. refl) refl)
-  stream_new t f create (some b) u = simp u
-  stream_new t f (live k) none u = refl
-  stream_new t f (live k) (some b) u = refl
+  stream_new t f create None u =
+      cond_elim (NewExactly true None) around.unusable (λ _. refl) (λ _. tests_all (NewExactly true None) (fail (request_of n t None f)) _ (λ e. refl) refl)
+  stream_new t f create (Some b) u = simp u
+  stream_new t f (live k) None u = refl
+  stream_new t f (live k) (Some b) u = refl
 
   serve_new : (self : Option Stream) (a : Act) → NotAgain around self → NewExactly (is_creation a) self (serve around n self a)
   unfolding serve on_command
@@ -61,8 +61,8 @@ module _ (around : Surroundings) (n : ℕ) where
       (λ l. cond_elim (NewExactly (creates l.command) self) (wrong_length l.length_rule (length f)) (λ _. fail_new (creates l.command) c invalid_parameter) (λ _. stream_new t f l.command self u))
       (λ creation. fail_new creation c invalid_operation) (command_type f)
   serve_new self (finish m qt r flags ts) u =
-      finish_cases (NewExactly false self) n qt r flags ts self (not_new self) (not_new self) (λ b q i h. ap (λ (x : Option Stream). is_new x (some b)) h.self_is)
-  serve_new self (drained m) u = drained_cases (NewExactly false self) n self (not_new self) (λ b t h. ap (λ (x : Option Stream). is_new x (some b)) h.self_is)
+      finish_cases (NewExactly false self) n qt r flags ts self (not_new self) (not_new self) (λ b q i h. ap (λ (x : Option Stream). is_new x (Some b)) h.self_is)
+  serve_new self (drained m) u = drained_cases (NewExactly false self) n self (not_new self) (λ b t h. ap (λ (x : Option Stream). is_new x (Some b)) h.self_is)
 
 -- So a number may not be taken any more exactly where the event is an accepted creation of it
 
@@ -71,13 +71,13 @@ module _ (n : ℕ) (d : Device) (a : Act) (h : well_formed d ≡ true) where
   unusable_by created = (seen n d).unusable || created
 
   -- after a step of m
-  perform_unusable : (m : ℕ) → (seen n (perform_of d a (some m)).device).unusable ≡ unusable_by (eqb m n && (is_creation a && accepted_device_reply (perform_of d a (some m))))
+  perform_unusable : (m : ℕ) → (seen n (perform_of d a (Some m)).device).unusable ≡ unusable_by (eqb m n && (is_creation a && accepted_device_reply (perform_of d a (Some m))))
   perform_unusable m =
       decide (eqb m n)
-      (λ e. subst (λ (x : ℕ). (seen n (perform_of d a (some x)).device).unusable ≡ unusable_by (eqb x n && (is_creation a && accepted_device_reply (perform_of d a (some x))))) (sym (eqb-true m n e)) own)
+      (λ e. subst (λ (x : ℕ). (seen n (perform_of d a (Some x)).device).unusable ≡ unusable_by (eqb x n && (is_creation a && accepted_device_reply (perform_of d a (Some x))))) (sym (eqb-true m n e)) own)
       (λ e. ap (λ (v : Seen). v.unusable) (other_seen n m d a e) ∙ simp (e, or-false (seen n d).unusable))
     where
-      own : (seen n (perform_of d a (some n)).device).unusable ≡ unusable_by (eqb n n && (is_creation a && accepted_device_reply (perform_of d a (some n))))
+      own : (seen n (perform_of d a (Some n)).device).unusable ≡ unusable_by (eqb n n && (is_creation a && accepted_device_reply (perform_of d a (Some n))))
       own =
           ap (λ (v : Seen). v.unusable) (own_seen n d a (well_spent d h).size)
           ∙ unusable_after (next_of n d a) (seen n d)
@@ -90,7 +90,7 @@ step_unusable n d s h m =
     let a = s.act in
     step_cases (λ (o : DeviceReply). (seen n o.device).unusable ≡ ((seen n d).unusable || (is_owner n (owner_of a) && (is_creation a && accepted_device_reply o)))) d s
     (λ k z. simp (z, and-false (is_creation a), and-false (is_owner n (owner_of a)), or-false (seen n d).unusable))
-    (λ k o. perform_unusable n d a h k ∙ ap (λ (x : Option ℕ). (seen n d).unusable || (is_owner n x && (is_creation a && accepted_device_reply (perform_of d a (some k))))) (sym o ∙ serves_owner a))
+    (λ k o. perform_unusable n d a h k ∙ ap (λ (x : Option ℕ). (seen n d).unusable || (is_owner n x && (is_creation a && accepted_device_reply (perform_of d a (Some k))))) (sym o ∙ serves_owner a))
     ∙ ap (λ (x : Bool). (seen n d).unusable || (is_owner n (owner_of a) && (is_creation a && x))) (sym (accepted_is s (step_on d s) (read_back d s h m)))
 
 -- A creation is answered 0x0302 exactly where its number may not be taken
@@ -113,7 +113,7 @@ unfolding stream_of
 creation_says d s t f a x l r =
     let n = field 4 f 4 in
     let self = record_of n d.places in
-    let whose : stream_of (command t f) ≡ some n = simp l in
+    let whose : stream_of (command t f) ≡ Some n = simp l in
     ap (λ (o : DeviceReply). says_invalid_stream (event_of s o)) (step_runs d s (room_enough s r) ∙ ap (perform d) a ∙ ap (perform_of d (command t f)) whose)
     ∙ ap tells_invalid (creation_served (around d n) n t f self x l)
     ∙ creation_tells (around d n) (request_of n t self f)

@@ -2,7 +2,7 @@
 use Prim.Native.Nat.{ℕ}
 use mathlib.Core.Path.{◌≡◌, refl, sym, ap, ◌∙◌, subst}
 use mathlib.Core.Bool.{true, false, cond, not, ◌||◌, or-true}
-use mathlib.Core.Option.{Option, none, some}
+use Rattle.std.specs.Prelude.{Option, None, Some}
 use mathlib.Core.List.{List, [], ◌∷◌, ◌++◌, head-eq_of_cons-eq, tail-eq_of_cons-eq}
 use lib.ListN.{length, take}
 use lib.Dec.{eqb, ltb}
@@ -34,11 +34,11 @@ use Rattle.model.proofs.Unchanged.{accepted_device_reply}
 
 -- nothing of the number lives, and it may not be taken
 record Gone (v : Seen) : Type 0 where
-  not_live : v.self ≡ none
+  not_live : v.self ≡ None
   not_again : v.unusable ≡ true
 
 -- so it is after a step of n that leaves no record, where the number may not be taken
-own_gone : (n : ℕ) (d : Device) (a : Act) → Sized d → next_of n d a ≡ none → (seen n d).unusable ≡ true → Gone (seen n (perform_of d a (some n)).device)
+own_gone : (n : ℕ) (d : Device) (a : Act) → Sized d → next_of n d a ≡ None → (seen n d).unusable ≡ true → Gone (seen n (perform_of d a (Some n)).device)
 own_gone n d a z e u =
     subst Gone (sym (own_seen n d a z)) (record { not_live = self_after (next_of n d a) (seen n d) ∙ e; not_again = still_unusable (next_of n d a) (seen n d) u })
 
@@ -46,7 +46,7 @@ own_gone n d a z e u =
 
 -- where the step is accepted, the number may not be taken and no record is left
 abbrev Destroys : Surroundings → Reply → Type 0
-Destroys around v = accepted_reply v ≡ true → (around.unusable ≡ true) × (v.next ≡ none)
+Destroys around v = accepted_reply v ≡ true → (around.unusable ≡ true) × (v.next ≡ None)
 
 -- a 0x0102 that is accepted found a live stream, and so a number that may not be taken
 destroy_ends : (around : Surroundings) (c : Request) → NotAgain around c.self → command_type c.frame ≡ 0x0102 → Destroys around (on_command around c)
@@ -56,8 +56,8 @@ destroy_ends around c u e =
     (cond_elim (Destroys around) (not (eqb (length c.frame) 8)) (λ _ z. never (sym z)) (λ _. of c.self u))
   where
     of : (self : Option Stream) → NotAgain around self → Destroys around (on_stream around c (live destroy) self)
-    of none u = λ z. never (sym z)
-    of (some b) u = λ _. (u, refl)
+    of None u = λ z. never (sym z)
+    of (Some b) u = λ _. (u, refl)
 
 destroy_serves : (around : Surroundings) (n t : ℕ) (f : List ℕ) (self : Option Stream) → NotAgain around self → field 4 f 0 ≡ 0x0102 → Destroys around (serve around n self (command t f))
 unfolding serve
@@ -68,14 +68,14 @@ destroy_gone : (d : Device) (s : Step) (t : ℕ) (f : List ℕ) → well_formed 
 destroy_gone d s t f h m a e acc =
     step_cases (λ (o : DeviceReply). accepted_device_reply o ≡ true → Gone (seen (field 4 f 4) o.device)) d s
     (λ k z y. never (sym (simp z at y)))
-    (λ n o y. of n (ap stream_of (sym a) ∙ o) (subst (λ (x : Act). accepted_device_reply (perform_of d x (some n)) ≡ true) a y))
+    (λ n o y. of n (ap stream_of (sym a) ∙ o) (subst (λ (x : Act). accepted_device_reply (perform_of d x (Some n)) ≡ true) a y))
     (sym (accepted_is s (step_on d s) (read_back d s h m)) ∙ acc)
   where
-    of : (n : ℕ) → stream_of (command t f) ≡ some n → accepted_device_reply (perform_of d (command t f) (some n)) ≡ true → Gone (seen (field 4 f 4) (perform_of d s.act (some n)).device)
+    of : (n : ℕ) → stream_of (command t f) ≡ Some n → accepted_device_reply (perform_of d (command t f) (Some n)) ≡ true → Gone (seen (field 4 f 4) (perform_of d s.act (Some n)).device)
     of n o y =
         let ended = destroy_serves (around d n) n t f (record_of n d.places) (not_again_lem n d h) e y in
-        subst (λ (x : Act). Gone (seen (field 4 f 4) (perform_of d x (some n)).device)) (sym a)
-        (subst (λ (x : ℕ). Gone (seen x (perform_of d (command t f) (some n)).device)) (step_stream_is (command t f) n o)
+        subst (λ (x : Act). Gone (seen (field 4 f 4) (perform_of d x (Some n)).device)) (sym a)
+        (subst (λ (x : ℕ). Gone (seen x (perform_of d (command t f) (Some n)).device)) (step_stream_is (command t f) n o)
         (own_gone n d (command t f) (well_spent d h).size ended.1 ended.0))
 
 -- a creation of the right length, by whether its number may be taken
@@ -90,18 +90,18 @@ abbrev NotTaken : Reply → Type 0
 NotTaken v = accepted_reply v ≡ false
 
 module _ (around : Surroundings) (u : around.unusable ≡ true) (n : ℕ) where
-  gone_rejects : (a : Act) → NotTaken (serve around n none a)
+  gone_rejects : (a : Act) → NotTaken (serve around n None a)
   unfolding serve
   gone_rejects (command t f) =
-      command_cases NotTaken around (request_of n t none f) (λ e. refl) (λ y. never (sym u ∙ y)) (λ k b e. cc)
-  gone_rejects (finish m qt r flags ts) = finish_cases NotTaken n qt r flags ts none refl refl (λ b q i h. let e = h.self_is in cc)
-  gone_rejects (drained m) = drained_cases NotTaken n none refl (λ b t h. let e = h.self_is in cc)
+      command_cases NotTaken around (request_of n t None f) (λ e. refl) (λ y. never (sym u ∙ y)) (λ k b e. cc)
+  gone_rejects (finish m qt r flags ts) = finish_cases NotTaken n qt r flags ts None refl refl (λ b q i h. let e = h.self_is in cc)
+  gone_rejects (drained m) = drained_cases NotTaken n None refl (λ b t h. let e = h.self_is in cc)
 
-  gone_reaches : (a : Act) (s : Step) (d : Device) → stream_of a ≡ some n
-      → ReachesNobody a (event_of s (record { refusal = (serve around n none a).refusal; answers = (serve around n none a).answers; device = d }))
+  gone_reaches : (a : Act) (s : Step) (d : Device) → stream_of a ≡ Some n
+      → ReachesNobody a (event_of s (record { refusal = (serve around n None a).refusal; answers = (serve around n None a).answers; device = d }))
   unfolding serve on_finish on_drained response_bytes little_endian
   gone_reaches (command t f) s d o = λ e l.
-      let is : serve around n none (command t f) ≡ fail (request_of n t none f) invalid_stream = creation_served around n t f none e l ∙ simp u in (
+      let is : serve around n None (command t f) ≡ fail (request_of n t None f) invalid_stream = creation_served around n t f None e l ∙ simp u in (
         ap (λ (v : Reply). v.refusal) is,
         ap (λ (v : Reply). length (bytes_of v.answers)) is,
         ap (λ (v : Reply). bytes_of v.answers) is ∙ ap (λ (x : ℕ). word_bytes (t ∷ 8 ∷ 0x0302 ∷ x ∷ [])) (step_stream_is (command t f) n o),
@@ -111,20 +111,20 @@ module _ (around : Surroundings) (u : around.unusable ≡ true) (n : ℕ) where
 
 module _ (n : ℕ) (d : Device) (g : Gone (seen n d)) where
   -- a step of it is served as where there is no record
-  gone_serves : (a : Act) → serve (around d n) n (record_of n d.places) a ≡ serve (around d n) n none a
+  gone_serves : (a : Act) → serve (around d n) n (record_of n d.places) a ≡ serve (around d n) n None a
   gone_serves a = ap (λ (r : Option Stream). serve (around d n) n r a) g.not_live
 
-  gone_refused : (s : Step) → stream_of s.act ≡ some n → accepted_device_reply (step_on d s) ≡ false
+  gone_refused : (s : Step) → stream_of s.act ≡ Some n → accepted_device_reply (step_on d s) ≡ false
   gone_refused s o =
       step_cases (λ (x : DeviceReply). accepted_device_reply x ≡ false) d s (λ k z. simp z)
-      (λ m e. let z : some n ≡ some m = sym o ∙ e in let is : n ≡ m = cc in
-      subst (λ (x : ℕ). accepted_device_reply (perform_of d s.act (some x)) ≡ false) is (ap accepted_reply (gone_serves s.act) ∙ gone_rejects (around d n) g.not_again n s.act))
+      (λ m e. let z : Some n ≡ Some m = sym o ∙ e in let is : n ≡ m = cc in
+      subst (λ (x : ℕ). accepted_device_reply (perform_of d s.act (Some x)) ≡ false) is (ap accepted_reply (gone_serves s.act) ∙ gone_rejects (around d n) g.not_again n s.act))
 
   gone_late : (s : Step) → well_formed d ≡ true → good_act s.act ≡ true → Late n (event_of s (step_on d s))
   unfolding belongs
   gone_late s h m b =
       let a = s.act in
-      let o : stream_of a ≡ some n = serves_owner a ∙ owner_is n (owner_of a) b in (
+      let o : stream_of a ≡ Some n = serves_owner a ∙ owner_is n (owner_of a) b in (
         accepted_is s (step_on d s) (read_back d s h m) ∙ gone_refused s o,
         λ r. subst (λ (x : DeviceReply). ReachesNobody a (event_of s x)) (sym (step_runs d s (room_enough s r) ∙ ap (perform_of d a) o))
             (subst (λ (v : Reply). ReachesNobody a (event_of s (record { refusal = v.refusal; answers = v.answers; device = d }))) (sym (gone_serves a))
@@ -136,10 +136,10 @@ module _ (n : ℕ) (d : Device) (g : Gone (seen n d)) where
   gone_step s z =
       step_cases (λ (o : DeviceReply). Gone (seen n o.device)) d s (λ k _. g)
       (λ m _. decide (eqb m n)
-      (λ e. subst (λ (x : ℕ). Gone (seen n (perform_of d s.act (some x)).device)) (sym (eqb-true m n e)) (own_gone n d s.act z next g.not_again))
+      (λ e. subst (λ (x : ℕ). Gone (seen n (perform_of d s.act (Some x)).device)) (sym (eqb-true m n e)) (own_gone n d s.act z next g.not_again))
       (λ e. subst Gone (sym (other_seen n m d s.act e)) g))
     where
-      next : next_of n d s.act ≡ none
+      next : next_of n d s.act ≡ None
       next =
           ap (λ (v : Reply). v.next) (gone_serves s.act)
           ∙ serve_next (around d n) (ap (λ x. no_place d.places || x) g.not_again ∙ or-true (no_place d.places)) n s.act

@@ -3,7 +3,7 @@ use Prim.Native.Nat.{ℕ, ◌≤◌}
 use native.Mathlib.Omega.{arith}
 use mathlib.Core.Path.{◌≡◌, refl, sym, ap, ◌∙◌, subst}
 use mathlib.Core.Bool.{Bool, true, false, not, ◌&&◌}
-use mathlib.Core.Option.{Option, none, some}
+use Rattle.std.specs.Prelude.{Option, None, Some}
 use mathlib.Core.List.{List, [], ◌∷◌, ◌++◌, map}
 use lib.ListN.{length, take, drop, length-append, length-drop}
 use lib.Seq.{take_at, drop_at}
@@ -74,19 +74,19 @@ module _ (d : Device) (h : well_formed d ≡ true) (n : ℕ) where
   numbered_report : (a : Act) (v : Reply) → Rejected n (step_ticket a) self v → Numbered v → accepted_reply v ≡ false → NotAccepted d a (device_reply d n v)
   numbered_report a v r h acc = report a v r (h acc)
 
-  with_owner : (a : Act) → stream_of a ≡ some n → accepted_reply (serve (around d n) n self a) ≡ false → NotAccepted d a (device_reply d n (serve (around d n) n self a))
+  with_owner : (a : Act) → stream_of a ≡ Some n → accepted_reply (serve (around d n) n self a) ≡ false → NotAccepted d a (device_reply d n (serve (around d n) n self a))
   unfolding serve
   with_owner a s acc = of a s acc ((fit a).rejected (sym (fit a).is ∙ acc))
     where
       fit : (a : Act) → FitsAct n a self (serve (around d n) n self a)
       fit a = serve_fits (around d n) n self a (not_again_lem n d h) (sane_record n d h)
 
-      of : (a : Act) → stream_of a ≡ some n → accepted_reply (serve (around d n) n self a) ≡ false → Rejected n (step_ticket a) self (serve (around d n) n self a)
+      of : (a : Act) → stream_of a ≡ Some n → accepted_reply (serve (around d n) n self a) ≡ false → Rejected n (step_ticket a) self (serve (around d n) n self a)
           → NotAccepted d a (device_reply d n (serve (around d n) n self a))
       of (command t f) s acc r = asked t f (serve (around d n) n self (command t f)) (step_stream_is (command t f) n s) r
       of (finish m qt x flags ts) s acc r =
           numbered_report (finish m qt x flags ts) (serve (around d n) n self (finish m qt x flags ts)) r
-          (finish_cases Numbered n qt x flags ts self (λ _. refl) (λ _. refl) (λ b q i h z. never (sym (finish_accepted n flags ts b q i none) ∙ z))) acc
+          (finish_cases Numbered n qt x flags ts self (λ _. refl) (λ _. refl) (λ b q i h z. never (sym (finish_accepted n flags ts b q i None) ∙ z))) acc
       of (drained m) s acc r =
           numbered_report (drained m) (serve (around d n) n self (drained m)) r (drained_cases Numbered n self (λ _. refl) (λ b t h z. never z)) acc
 
@@ -94,8 +94,8 @@ not_accepted_lem : (d : Device) (a : Act) → well_formed d ≡ true → accepte
 not_accepted_lem d a h = of (stream_of a) refl
   where
     of : (o : Option ℕ) → stream_of a ≡ o → accepted_device_reply (perform_of d a o) ≡ false → NotAccepted d a (perform_of d a o)
-    of none e z = numbered 4 refl
-    of (some n) e z = with_owner d h n a e z
+    of None e z = numbered 4 refl
+    of (Some n) e z = with_owner d h n a e z
 
 -- Over tables
 

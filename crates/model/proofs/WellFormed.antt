@@ -1,7 +1,7 @@
 -- A step leaves a well-formed device well formed.
 use mathlib.Core.Path.{◌≡◌, refl, sym, ap, ◌∙◌, subst}
 use mathlib.Core.Bool.{Bool, true, false, not, ◌&&◌, and-false, or-true}
-use mathlib.Core.Option.{Option, none, some}
+use Rattle.std.specs.Prelude.{Option, None, Some}
 use mathlib.Core.List.{List, [], ◌∷◌}
 use Prim.Native.Nat.{ℕ, suc, ◌^◌, ◌<◌}
 use native.Mathlib.Omega.{arith}
@@ -124,8 +124,8 @@ pub record GoodStream (b : Stream) : Type 0 where
   pub outputs : GoodQueue b.outputs
 
 abbrev pub GoodSelf : Option Stream → Type 0
-GoodSelf none = Unit {0}
-GoodSelf (some b) = GoodStream b
+GoodSelf None = Unit {0}
+GoodSelf (Some b) = GoodStream b
 
 queue_is : (q : Queue) → good_queue q ≡ true → GoodQueue q
 queue_is q h =
@@ -175,7 +175,7 @@ good_slots_lem ends t s b g h =
     good_with t _ _ (left ends) (record { slots = h; width = o.width; height = o.height; rate = o.rate })
   where
     left : (e : Bool) → GoodStream (without_ended e b)
-    left true = good_drain_lem none b g refl
+    left true = good_drain_lem None b g refl
     left false = g
 
 good_new : (v : ℕ) → within v first_coded last_coded ≡ true → GoodStream (new_stream v)
@@ -190,7 +190,7 @@ good_new v h = record { format = h; draining = refl; inputs = q; outputs = q }
 abbrev GoodNext : Reply → Type 0
 GoodNext v = GoodSelf v.next
 
-module _ (c : Request) (b : Stream) (self : c.self ≡ some b) (g : GoodStream b) (t : u32 c.ticket ≡ true) (m : all_of u8 c.frame ≡ true) where
+module _ (c : Request) (b : Stream) (self : c.self ≡ Some b) (g : GoodStream b) (t : u32 c.ticket ≡ true) (m : all_of u8 c.frame ≡ true) where
   same_queue : GoodSelf c.self
   same_queue = subst GoodSelf (sym self) g
 
@@ -212,7 +212,7 @@ module _ (c : Request) (b : Stream) (self : c.self ≡ some b) (g : GoodStream b
 
   live_good : (k : LiveCommand) → GoodNext (on_live k c b)
   unfolding on_destroy on_drain
-  live_good = live_cases GoodNext c b (λ e. same_queue) tt (tests_all GoodNext (fail c) _ (λ e. same_queue) (good_drain_lem (some c.ticket) b g t)) changed_good
+  live_good = live_cases GoodNext c b (λ e. same_queue) tt (tests_all GoodNext (fail c) _ (λ e. same_queue) (good_drain_lem (Some c.ticket) b g t)) changed_good
 
 command_good : (around : Surroundings) (c : Request) → GoodSelf c.self → u32 c.ticket ≡ true → all_of u8 c.frame ≡ true → GoodNext (on_command around c)
 unfolding on_create
@@ -230,7 +230,7 @@ serve_good around n self (finish k qt r flags ts) g m =
     (λ b q i h. let s : GoodStream b = subst GoodSelf h.self_is g in
     good_slots_lem (has_eos flags) q _ b s (slots_set r dequeued (queue_of q b).slots refl (good_queue_of q b s).slots))
 serve_good around n self (drained k) g m =
-    drained_cases GoodNext n self g (λ b t h. good_drain_lem none b (subst GoodSelf h.self_is g) refl)
+    drained_cases GoodNext n self g (λ b t h. good_drain_lem None b (subst GoodSelf h.self_is g) refl)
 
 -- Places
 
@@ -272,16 +272,16 @@ pub not_again_lem : (n : ℕ) (d : Device) → well_formed d ≡ true → NotAga
 not_again_lem n d h = of (record_of n d.places) (all_record (spent_in d.spent) n refl d.places (well_spent d h).each)
   where
     of : (r : Option Stream) → spent_in d.spent (place n r) ≡ true → NotAgain (around d n) r
-    of none e = tt
-    of (some b) e = let live : is_spent n d.spent ≡ true = e in simp (live, or-true (not (ltb n stream_numbers)))
+    of None e = tt
+    of (Some b) e = let live : is_spent n d.spent ≡ true = e in simp (live, or-true (not (ltb n stream_numbers)))
 
 self_is : (n : ℕ) (r : Option Stream) → good_place (place n r) ≡ true → GoodSelf r
-self_is n none h = tt
-self_is n (some b) h = stream_is b (and_right (u32 n) _ h)
+self_is n None h = tt
+self_is n (Some b) h = stream_is b (and_right (u32 n) _ h)
 
 is_self : (n : ℕ) (r : Option Stream) → u32 n ≡ true → GoodSelf r → good_place (place n r) ≡ true
-is_self n none u g = refl
-is_self n (some b) u g = both u (is_stream_lem b g)
+is_self n None u g = refl
+is_self n (Some b) u g = both u (is_stream_lem b g)
 
 pub well_record : (n : ℕ) (d : Device) → well_formed d ≡ true → GoodSelf (record_of n d.places)
 well_record n d h = self_is n (record_of n d.places) (all_record good_place n refl d.places (well_places d h).each)
@@ -312,13 +312,13 @@ apart_replace n r (occupied m b ∷ ps) h =
     (λ e. simp e (alone m b (replace n r ps) (ap is_none (replace_other m n r ps (eqb_sym m n e)) ∙ here) (apart_replace n r ps rest)))
   where
     taken : (x : Option Stream) → is_none (record_of n ps) ≡ true → distinct_places ps ≡ true → distinct_places (place n x ∷ replace n r ps) ≡ true
-    taken none q z = simp (replace_absent n r ps q) z
-    taken (some c) q z = simp (replace_absent n r ps q) (alone n c ps q z)
+    taken None q z = simp (replace_absent n r ps q) z
+    taken (Some c) q z = simp (replace_absent n r ps q) (alone n c ps q z)
 
 apart_install : (n : ℕ) (r : Option Stream) (ps : List Place) → is_none (record_of n ps) ≡ true → distinct_places ps ≡ true → distinct_places (install n r ps) ≡ true
 apart_install n r [] q h = refl
-apart_install n none (vacant ∷ ps) q h = h
-apart_install n (some c) (vacant ∷ ps) q h = alone n c ps q h
+apart_install n None (vacant ∷ ps) q h = h
+apart_install n (Some c) (vacant ∷ ps) q h = alone n c ps q h
 apart_install n r (occupied m b ∷ ps) q h =
     decide (eqb m n) (λ e. never (sym (simp e at q)))
     (λ e. alone m b (install n r ps) (ap is_none (install_other m n r ps (eqb_sym m n e)) ∙ alone_head m b ps h) (apart_install n r ps (simp e at q) (alone_tail m b ps h)))
@@ -339,10 +339,10 @@ new_usable n d a e =
     decide (ltb n stream_numbers) (λ h. ltb-true n stream_numbers h)
     (λ h. never (sym e ∙ ap (λ (r : Option Stream). is_new (record_of n d.places) r) (gone h) ∙ and-false (is_none (record_of n d.places))))
   where
-    self : record_of n d.places ≡ none
+    self : record_of n d.places ≡ None
     self = none_is (record_of n d.places) (and_left (is_none (record_of n d.places)) _ e)
 
-    gone : ltb n stream_numbers ≡ false → next_of n d a ≡ none
+    gone : ltb n stream_numbers ≡ false → next_of n d a ≡ None
     gone h = ap (λ (r : Option Stream). (serve (around d n) n r a).next) self ∙ serve_next (around d n) (simp (h, or-true (no_place d.places))) n a
 
 module _ (n : ℕ) (s : List Bool) where
@@ -353,12 +353,12 @@ module _ (n : ℕ) (s : List Bool) where
 -- the number of a record that is left is spent: it was, or the record is new
 left_spent : (n : ℕ) (r : Option Stream) (ps : List Place) (s : List Bool) → GoodSpent ps s → (is_new (record_of n ps) r ≡ true → n < stream_numbers)
     → spent_in (spent_after n (record_of n ps) r s) (place n r) ≡ true
-left_spent n none ps s g new = refl
-left_spent n (some b) ps s g new = of (record_of n ps) (all_record (spent_in s) n refl ps g.each) new
+left_spent n None ps s g new = refl
+left_spent n (Some b) ps s g new = of (record_of n ps) (all_record (spent_in s) n refl ps g.each) new
   where
-    of : (old : Option Stream) → spent_in s (place n old) ≡ true → (is_new old (some b) ≡ true → n < stream_numbers) → is_spent n (spent_after n old (some b) s) ≡ true
-    of none h new = spend_same n s (omega (arith, new refl, g.size))
-    of (some c) h new = h
+    of : (old : Option Stream) → spent_in s (place n old) ≡ true → (is_new old (Some b) ≡ true → n < stream_numbers) → is_spent n (spent_after n old (Some b) s) ≡ true
+    of None h new = spend_same n s (omega (arith, new refl, g.size))
+    of (Some c) h new = h
 
 spent_put : (n : ℕ) (r : Option Stream) (d : Device) → GoodSpent d.places d.spent → (is_new (record_of n d.places) r ≡ true → n < stream_numbers)
     → good_spent (put_back n r d).places (put_back n r d).spent ≡ true
@@ -369,12 +369,12 @@ spent_put n r d g new =
     (all_put (spent_in s) n r (left_spent n r d.places d.spent g new) d.places
     (cond_elim (λ (x : List Bool). all_of (spent_in x) d.places ≡ true) (is_new (record_of n d.places) r) (λ _. all_implied (spent_in d.spent) (spent_in (spend n d.spent)) (spent_keeps n d.spent) d.places g.each) (λ _. g.each)))
 
-stream_u32 : (a : Act) (n : ℕ) → good_act a ≡ true → stream_of a ≡ some n → u32 n ≡ true
+stream_u32 : (a : Act) (n : ℕ) → good_act a ≡ true → stream_of a ≡ Some n → u32 n ≡ true
 unfolding stream_of
 stream_u32 (command t f) n m e =
     decide (ltb (length f) header_bytes)
-    (λ h. let z : none ≡ some n = simp h at e in cc)
-    (λ h. let z : some (stream_id f) ≡ some n = simp h at e in let q : stream_id f ≡ n = cc in subst (λ x. u32 x ≡ true) q (word_u32 f 4 (and_right (u32 t) _ m)))
+    (λ h. let z : None ≡ Some n = simp h at e in cc)
+    (λ h. let z : Some (stream_id f) ≡ Some n = simp h at e in let q : stream_id f ≡ n = cc in subst (λ x. u32 x ≡ true) q (word_u32 f 4 (and_right (u32 t) _ m)))
 stream_u32 (finish k qt r flags ts) n m e = let q : k ≡ n = cc in subst (λ x. u32 x ≡ true) q (and_left (u32 k) _ m)
 stream_u32 (drained k) n m e = let q : k ≡ n = cc in subst (λ x. u32 x ≡ true) q m
 

@@ -1,7 +1,7 @@
 -- How a case is checked on the definitions, the ten cases of document 01 that are to be, three on spent numbers, six on the last picture of a drain, five on the
 -- order of two steps, and some lines on what no run shows.
 use Rattle.std.specs.Prelude.{ℕ, Bool, true, false, ◌&&◌, List, [], ◌∷◌, ◌++◌, map, ◌≡◌, replicate, take, eqb}
-use Rattle.std.proofs.Math.Option.{some}
+use Rattle.std.specs.Prelude.{Some}
 use Rattle.laws.specs.Lists.{all_of, same}
 use Rattle.model.specs.Numbers.{answer_room}
 use Rattle.model.specs.Device.{output, created, Slot, free, resource, Device, fresh, new_queue, new_stream, with_queue, with_slots, record_of, put_back}
@@ -234,7 +234,7 @@ output_cleared = all_pending ++ ask_clear 8 0x101 ∷ []
 
 -- a device with one stream, whose outputs are these
 abbrev pub with_outputs : List Slot → Device
-with_outputs s = put_back 7 (some (with_queue output (with_slots s new_queue) (new_stream 0x1000))) fresh
+with_outputs s = put_back 7 (Some (with_queue output (with_slots s new_queue) (new_stream 0x1000))) fresh
 
 pub record MoreCases : Type 0 where
   -- though runs show them too: a wrong rule is then refused by a case

@@ -2,7 +2,7 @@
 -- sees only its surroundings, and only a creation looks at them. In each definition c is the request, f its frame, b the stream's record and q
 -- the queue that the frame names.
 use Rattle.std.specs.Prelude.{ℕ, zero, suc, ◌+◌, ◌*◌, ◌/◌, ◌%◌, ◌^◌, Bool, false, cond, not, ◌&&◌, ◌||◌, List, [], ◌∷◌, ◌++◌, map, length, take, drop, replicate, eqb, ltb}
-use Rattle.std.proofs.Math.Option.{Option, none, some}
+use Rattle.std.specs.Prelude.{Option, None, Some}
 use Rattle.laws.specs.Tests.{within}
 use Rattle.laws.specs.InOrder.{TestList, accept, ◌⇒◌then◌, by_tests}
 use Rattle.laws.specs.Lists.{is_empty, is_none, to_list, total}
@@ -36,7 +36,7 @@ on_create around c =
     not (within (coded_format f) first_coded last_coded) ⇒ invalid_parameter then
     not (good_tag (tag_in f)) ⇒ invalid_parameter then
     around.full ⇒ out_of_memory then
-    succeed c (some (new_stream (coded_format f))))
+    succeed c (Some (new_stream (coded_format f))))
 
 -- the answers to buffers of stream n that a clear or a destroy stops: their own timestamp, flag ERR
 abbrev pub stopped_answers : ℕ → QueueType → List Buffer → List Answer
@@ -44,11 +44,11 @@ stopped_answers n q = map (λ (i : Buffer). record { ticket = i.ticket; stream =
 
 -- the drain that a step ends: the stream's pending one, if there is one; none where the step ends no drain
 abbrev pub drain_ended : Bool → Stream → Option ℕ
-drain_ended ends b = cond ends b.draining none
+drain_ended ends b = cond ends b.draining None
 
 -- the record without the drain that the step ends
 abbrev pub without_ended : Bool → Stream → Stream
-without_ended ends b = cond ends (with_drain none b) b
+without_ended ends b = cond ends (with_drain None b) b
 
 -- the answer to a drain, if there is one
 abbrev pub drain_answers : ℕ → Option ℕ → List Answer
@@ -60,14 +60,14 @@ on_destroy c b =
     let n = c.stream in
     reply
     (stopped_answers n input (buffers input b) ++ (stopped_answers n output (buffers output b) ++ (drain_answers n b.draining ++ own c success ∷ [])))
-    none
+    None
 
 -- 0x0103 drain
 unfoldable pub on_drain : Request → Stream → Reply
 on_drain c b =
     by_tests (fail c)
     (not (is_none b.draining) ⇒ invalid_operation then
-    accept (reply [] (some (with_drain (some c.ticket) b))))
+    accept (reply [] (Some (with_drain (Some c.ticket) b))))
 
 -- one of the first k entries has length 0, or an address + length above 2^64
 abbrev pub bad_entry : ℕ → List ℕ → Bool
@@ -89,7 +89,7 @@ on_create_resource c b q =
     bad_entry sum (entries f) ⇒ invalid_parameter then
     present r s ⇒ invalid_resource then
     no_slot s ⇒ out_of_memory then
-    succeed c (some (with_queue q (with_slots (add_resource r s) (queue_of q b)) b)))
+    succeed c (Some (with_queue q (with_slots (add_resource r s) (queue_of q b)) b)))
 
 -- an input while draining
 abbrev pub input_draining : QueueType → Stream → Bool
@@ -106,7 +106,7 @@ on_queue c b q =
     input_draining q b ⇒ invalid_operation then
     not (present r s) ⇒ invalid_resource then
     not (is_none (buffer_of r (queued_in s))) ⇒ invalid_operation then
-    accept (reply [] (some (with_queue q (with_slots (set_state r (queued c.ticket (timestamp_sent f)) s) (queue_of q b)) b))))
+    accept (reply [] (Some (with_queue q (with_slots (set_state r (queued c.ticket (timestamp_sent f)) s) (queue_of q b)) b))))
 
 -- 0x0106 destroy all
 unfoldable pub on_destroy_all : Request → Stream → QueueType → Reply
@@ -114,7 +114,7 @@ on_destroy_all c b q =
     let s = (queue_of q b).slots in
     by_tests (fail c)
     (not (is_empty (queued_in s)) ⇒ invalid_operation then
-    succeed c (some (with_queue q (with_slots (free_all s) (queue_of q b)) b)))
+    succeed c (Some (with_queue q (with_slots (free_all s) (queue_of q b)) b)))
 
 -- every Queued buffer Dequeued
 abbrev pub cleared : Queue → Queue
@@ -126,7 +126,7 @@ on_clear c b q =
     let n = c.stream in
     reply
     (stopped_answers n q (buffers q b) ++ (drain_answers n (drain_ended (is_input q) b) ++ own c success ∷ []))
-    (some (with_queue q (cleared (queue_of q b)) (without_ended (is_input q) b)))
+    (Some (with_queue q (cleared (queue_of q b)) (without_ended (is_input q) b)))
 
 -- the plane count and its 8 pairs of size and stride
 abbrev pub planes : QueueType → Queue → List ℕ
@@ -169,7 +169,7 @@ on_set c b q =
     bad_extent (frame_width f) ⇒ invalid_parameter then
     bad_extent (frame_height f) ⇒ invalid_parameter then
     not (is_empty (queued_in (queue_of q b).slots)) ⇒ invalid_operation then
-    succeed c (some (with_queue q (with_parameters (frame_width f) (frame_height f) (frame_rate f) (queue_of q b)) b)))
+    succeed c (Some (with_queue q (with_parameters (frame_width f) (frame_height f) (frame_rate f) (queue_of q b)) b)))
 
 -- a command to a queue
 abbrev pub on_queue_of : QueueCommand → Request → Stream → QueueType → Reply
@@ -182,8 +182,8 @@ on_queue_of set_parameters c b q = on_set c b q
 
 -- the queue is named first in each of their lists; a bad queue type is an invalid parameter
 abbrev pub on_named : QueueCommand → Request → Stream → Option QueueType → Reply
-on_named k c b none = fail c invalid_parameter
-on_named k c b (some q) = on_queue_of k c b q
+on_named k c b None = fail c invalid_parameter
+on_named k c b (Some q) = on_queue_of k c b q
 
 -- a command to a live stream
 abbrev pub on_live : LiveCommand → Request → Stream → Reply
@@ -198,13 +198,13 @@ on_live (to_queue k) c b = on_named k c b (queue_named (queue_type c.frame))
 -- a creation is for a number never used before, all other commands are for a live one
 abbrev pub on_stream : Surroundings → Request → Command → Option Stream → Reply
 on_stream around c create self = cond around.unusable (fail c invalid_stream) (on_create around c)
-on_stream around c (live k) none = fail c invalid_stream
-on_stream around c (live k) (some b) = on_live k c b
+on_stream around c (live k) None = fail c invalid_stream
+on_stream around c (live k) (Some b) = on_live k c b
 
 -- a type without a rule is an invalid operation; a wrong length is an invalid parameter
 abbrev pub on_rule : Surroundings → Request → Option CommandRule → Reply
-on_rule around c none = fail c invalid_operation
-on_rule around c (some l) = cond (wrong_length l.length_rule (length c.frame)) (fail c invalid_parameter) (on_stream around c l.command c.self)
+on_rule around c None = fail c invalid_operation
+on_rule around c (Some l) = cond (wrong_length l.length_rule (length c.frame)) (fail c invalid_parameter) (on_stream around c l.command c.self)
 
 -- a command, by its type
 unfoldable pub on_command : Surroundings → Request → Reply

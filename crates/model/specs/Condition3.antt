@@ -1,6 +1,6 @@
 -- Condition 3: streams are isolated, and every accepted queueing or drain is answered once or pending once.
 use Rattle.std.specs.Prelude.{ℕ, ◌+◌, ◌≤◌, ◌≡◌, Bool, true, false, ◌&&◌, List, [], ◌∷◌, ◌++◌, map, length, take, eqb, ltb}
-use Rattle.std.proofs.Math.Option.{Option}
+use Rattle.std.specs.Prelude.{Option}
 use Rattle.laws.specs.Lists.{keep, any_of, how_many, is_none}
 use Rattle.field.specs.Field.{field}
 use Rattle.model.specs.Numbers.{table_words}

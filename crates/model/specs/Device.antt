@@ -2,7 +2,7 @@
 -- stream numbers are spent.
 -- A place is document 01's own word; it calls a slot a place too, and a pending drain an owed one.
 use Rattle.std.specs.Prelude.{ℕ, ◌+◌, Bool, true, false, cond, not, ◌&&◌, List, [], ◌∷◌, map, length, replicate, get_or, set, eqb}
-use Rattle.std.proofs.Math.Option.{Option, none, some}
+use Rattle.std.specs.Prelude.{Option, None, Some}
 use Rattle.laws.specs.Lists.{is_empty, is_none, to_list, numbers_in, stands_in, total}
 use Rattle.laws.specs.Ascending.{ascending}
 use Rattle.model.specs.Numbers.{stream_places, queue_slots, stream_numbers}
@@ -61,7 +61,7 @@ new_queue = record { width = 640; height = 480; rate = 0; slots = replicate queu
 
 -- a new stream, of a coded format
 abbrev pub new_stream : ℕ → Stream
-new_stream format = record { format = format; draining = none; inputs = new_queue; outputs = new_queue }
+new_stream format = record { format = format; draining = None; inputs = new_queue; outputs = new_queue }
 
 -- A record's parts, and the record with another part
 
@@ -113,15 +113,15 @@ buffers q b = by_resource (queued_in (queue_of q b).slots)
 
 -- the Queued buffer of a resource number
 abbrev pub buffer_of : ℕ → List Buffer → Option Buffer
-buffer_of r [] = none
-buffer_of r (i ∷ l) = cond (eqb i.resource r) (some i) (buffer_of r l)
+buffer_of r [] = None
+buffer_of r (i ∷ l) = cond (eqb i.resource r) (Some i) (buffer_of r l)
 
 -- Slots
 
 -- the resource number in a slot
 abbrev pub slot_number : Slot → Option ℕ
-slot_number free = none
-slot_number (resource r p) = some r
+slot_number free = None
+slot_number (resource r p) = Some r
 
 -- some slot holds the resource number
 abbrev pub present : ℕ → List Slot → Bool
@@ -170,14 +170,14 @@ free_all (p ∷ s) = free ∷ free_all s
 
 -- the stream number in a place
 abbrev pub place_number : Place → Option ℕ
-place_number vacant = none
-place_number (occupied n b) = some n
+place_number vacant = None
+place_number (occupied n b) = Some n
 
 -- the record of a stream number, if it is live
 abbrev pub record_of : ℕ → List Place → Option Stream
-record_of n [] = none
+record_of n [] = None
 record_of n (vacant ∷ ps) = record_of n ps
-record_of n (occupied m b ∷ ps) = cond (eqb m n) (some b) (record_of n ps)
+record_of n (occupied m b ∷ ps) = cond (eqb m n) (Some b) (record_of n ps)
 
 -- every place holds something
 abbrev pub no_place : List Place → Bool
@@ -187,8 +187,8 @@ no_place (occupied m b ∷ ps) = no_place ps
 
 -- the place of a stream with a record, or with none
 abbrev pub place : ℕ → Option Stream → Place
-place n none = vacant
-place n (some b) = occupied n b
+place n None = vacant
+place n (Some b) = occupied n b
 
 -- the place of a live number gets its new record, or becomes vacant
 abbrev pub replace : ℕ → Option Stream → List Place → List Place
@@ -214,8 +214,8 @@ pending_to b = length (queued_in b.inputs.slots) + (length (queued_in b.outputs.
 
 -- to a stream number: by its record, and none where it is not live
 abbrev pub pending_of : Option Stream → ℕ
-pending_of none = 0
-pending_of (some b) = pending_to b
+pending_of None = 0
+pending_of (Some b) = pending_to b
 
 -- to the stream of a place
 abbrev pub pending_at : Place → ℕ

@@ -1,7 +1,7 @@
 -- The guest's frames: the commands with their types and lengths, and those fields of the draft's structs that are read. Offsets count from
 -- the start of the frame, in mem_entry from the start of the entry.
 use Rattle.std.specs.Prelude.{ℕ, zero, suc, ◌+◌, Bool, cond, not, List, [], ◌∷◌, drop, eqb, ltb}
-use Rattle.std.proofs.Math.Option.{Option, none, some}
+use Rattle.std.specs.Prelude.{Option, None, Some}
 use Rattle.field.specs.Field.{field}
 use Rattle.tag.specs.Tag.{create_type, create_length}
 use Rattle.model.specs.Numbers.{max_planes}
@@ -61,8 +61,8 @@ commands =
 
 -- the rule of a type among some
 abbrev pub rule_in : ℕ → List CommandRule → Option CommandRule
-rule_in ty [] = none
-rule_in ty (l ∷ ls) = cond (eqb l.type ty) (some l) (rule_in ty ls)
+rule_in ty [] = None
+rule_in ty (l ∷ ls) = cond (eqb l.type ty) (Some l) (rule_in ty ls)
 
 -- the rule of a type; none for 0x0100 and for an unknown one
 unfoldable pub rule_of : ℕ → Option CommandRule
@@ -82,7 +82,7 @@ queue_number output = 0x101
 
 -- the queue that a number names, if it names one
 unfoldable pub queue_named : ℕ → Option QueueType
-queue_named n = cond (eqb n (queue_number input)) (some input) (cond (eqb n (queue_number output)) (some output) none)
+queue_named n = cond (eqb n (queue_number input)) (Some input) (cond (eqb n (queue_number output)) (Some output) None)
 
 -- Fields
 

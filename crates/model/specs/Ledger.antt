@@ -1,7 +1,7 @@
 -- The ledger of pending answers. It is written by the numbers of document 01 and uses nothing of the device's own reading of frames, so that
 -- a mistake there shows.
 use Rattle.std.specs.Prelude.{ℕ, suc, ◌+◌, ◌≡◌, Bool, true, false, cond, not, ◌&&◌, ◌||◌, List, [], ◌∷◌, ◌++◌, map, eqb, leb}
-use Rattle.std.proofs.Math.Option.{Option, none, some}
+use Rattle.std.specs.Prelude.{Option, None, Some}
 use Rattle.laws.specs.Lists.{keep, how_many, to_list}
 use Rattle.laws.specs.Ascending.{ascending}
 use Rattle.field.specs.Field.{field}
@@ -55,15 +55,15 @@ step_ticket (drained n) = 0
 -- An accepted 0x0105 adds the answer to its buffer, an accepted 0x0103 the answer to its drain.
 unfoldable pub awaited_by : Act → Option Awaited
 awaited_by (command t f) =
-    cond (is_type 0x0105 f) (some (to_buffer (field 4 f 8) (field 4 f 12) (field 8 f 16)))
-    (cond (is_type 0x0103 f) (some to_drain) none)
-awaited_by (finish n qt r flags ts) = none
-awaited_by (drained n) = none
+    cond (is_type 0x0105 f) (Some (to_buffer (field 4 f 8) (field 4 f 12) (field 8 f 16)))
+    (cond (is_type 0x0103 f) (Some to_drain) None)
+awaited_by (finish n qt r flags ts) = None
+awaited_by (drained n) = None
 
 -- one pending answer, if there is one to add
 abbrev pub pending : ℕ → ℕ → ℕ → Option Awaited → List Pending
-pending k t n none = []
-pending k t n (some w) = record { step_number = k; ticket = t; stream = n; awaited = w } ∷ []
+pending k t n None = []
+pending k t n (Some w) = record { step_number = k; ticket = t; stream = n; awaited = w } ∷ []
 
 -- what an accepted step adds
 abbrev pub adds : ℕ → Act → List Pending
@@ -189,5 +189,5 @@ outstanding_drain d = map (λ (t : ℕ). outstanding t to_drain) (to_list d)
 
 -- both, or nothing where there is no record
 abbrev pub outstanding_in : Option Stream → List Outstanding
-outstanding_in none = []
-outstanding_in (some b) = outstanding_buffers 0x100 (queued_in b.inputs.slots) ++ (outstanding_buffers 0x101 (queued_in b.outputs.slots) ++ outstanding_drain b.draining)
+outstanding_in None = []
+outstanding_in (Some b) = outstanding_buffers 0x100 (queued_in b.inputs.slots) ++ (outstanding_buffers 0x101 (queued_in b.outputs.slots) ++ outstanding_drain b.draining)

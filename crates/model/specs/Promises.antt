@@ -1,7 +1,7 @@
 -- What else holds of every step and of every list of steps. Those over devices are proved in proofs/ as they stand. Those over tables are
 -- proved there of every layout, or of every lawful one (`Lawful`), and then of the one layout that is used: `TablePromises` in table/specs/Promises.
 use Rattle.std.specs.Prelude.{ℕ, ◌≤◌, ◌<◌, ◌≡◌, Bool, true, false, cond, not, ◌&&◌, ◌||◌, length, take, drop, eqb, ltb, leb}
-use Rattle.std.proofs.Math.Option.{Option, none, some}
+use Rattle.std.specs.Prelude.{Option, None, Some}
 use mathlib.Core.List.{List, [], ◌∷◌, ◌++◌, map, reverse, Perm}
 use Rattle.laws.specs.Lists.{any_of, all_of, Each, how_many, is_none, same}
 use Rattle.field.specs.Field.{field, little_endian}
@@ -178,7 +178,7 @@ pub record LastPicture (n r flags ts : ℕ) (before : List Event) (e : Event) : 
 pub data EndsDrain (before : List Event) (e : Event) (self : Option Stream) : Act → Type 0 where
   by_clear : (t : ℕ) (f : List ℕ) → field 4 f 0 ≡ 0x0107 → field 4 f 8 ≡ 0x100 → EndsDrain before e self (command t f)
   by_destruction : (t : ℕ) (f : List ℕ) → field 4 f 0 ≡ 0x0102 → EndsDrain before e self (command t f)
-  by_report : (n : ℕ) (b : Stream) → self ≡ some b → has_outputs b ≡ false → is_pending n (is_buffer_of 0x100) (ledger_of before) ≡ false → EndsDrain before e self (drained n)
+  by_report : (n : ℕ) (b : Stream) → self ≡ Some b → has_outputs b ≡ false → is_pending n (is_buffer_of 0x100) (ledger_of before) ≡ false → EndsDrain before e self (drained n)
   behind_picture : (n r flags ts : ℕ) → 2 ≤ flags → LastPicture n r flags ts before e → EndsDrain before e self (finish n 0x101 r flags ts)
 
 -- from a fresh table: an event that answers a drain is a clear of the inputs, a destruction, a drained report on a stream without output resources, or the very
@@ -192,8 +192,8 @@ DrainsEnd L =
 -- the stream lives on, and by its record no drain is pending
 pub record NotDraining (self : Option Stream) : Type 0 where
   pub left_record : Stream
-  pub record_is : self ≡ some left_record
-  pub no_drain : left_record.draining ≡ none
+  pub record_is : self ≡ Some left_record
+  pub no_drain : left_record.draining ≡ None
 
 -- from a fresh table: an accepted finish with EOS answers its picture and its drain, and after it no drain of its stream is pending, by the ledger and by the record
 abbrev pub NoDrainAfterEos : Layout → Type 0

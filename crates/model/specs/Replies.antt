@@ -1,6 +1,6 @@
 -- What a step of one stream gives, and what a command is told.
 use Rattle.std.specs.Prelude.{ℕ, List, [], ◌∷◌}
-use Rattle.std.proofs.Math.Option.{Option}
+use Rattle.std.specs.Prelude.{Option}
 use Rattle.model.specs.Device.{Stream}
 use Rattle.model.specs.Answers.{ErrorCode, Response, failure, Answer}
 

@@ -1,7 +1,7 @@
 -- What the back end's reports do to the record of their stream n: document 01, "Host refusals" 5 and 6, as request 9 of document 02 amends them, and the
 -- lifecycle.
 use Rattle.std.specs.Prelude.{ℕ, ◌+◌, Bool, cond, not, ◌&&◌, ◌||◌, List, [], ◌∷◌, ltb, leb}
-use Rattle.std.proofs.Math.Option.{Option, none, some}
+use Rattle.std.specs.Prelude.{Option, None, Some}
 use Rattle.laws.specs.Lists.{is_empty, is_none}
 use Rattle.model.specs.Numbers.{err, eos}
 use Rattle.model.specs.Device.{QueueType, input, output, is_input, dequeued, Stream, queue_of, with_queue, with_drain, with_slots, Buffer, queued_in, buffer_of, no_resource, set_state}
@@ -42,21 +42,21 @@ finish_leaves r flags b q = with_queue q (with_slots (set_state r dequeued (queu
 
 -- a finish of the buffer that the report names, if there is one now Queued
 abbrev pub finish_buffer : ℕ → ℕ → ℕ → ℕ → Stream → QueueType → Option Buffer → Reply
-finish_buffer n r flags ts b q none = refuse 5 (some b)
-finish_buffer n r flags ts b q (some i) =
-    cond (bad_eos flags q b) (refuse 6 (some b))
-    (cond (early_eos flags b) (refuse 5 (some b))
-    (reply (finish_answers n flags ts b q i) (some (finish_leaves r flags b q))))
+finish_buffer n r flags ts b q None = refuse 5 (Some b)
+finish_buffer n r flags ts b q (Some i) =
+    cond (bad_eos flags q b) (refuse 6 (Some b))
+    (cond (early_eos flags b) (refuse 5 (Some b))
+    (reply (finish_answers n flags ts b q i) (Some (finish_leaves r flags b q))))
 
 -- and of the queue that it names
 abbrev pub finish_queue : ℕ → ℕ → ℕ → ℕ → Stream → Option QueueType → Reply
-finish_queue n r flags ts b none = refuse 5 (some b)
-finish_queue n r flags ts b (some q) = finish_buffer n r flags ts b q (buffer_of r (queued_in (queue_of q b).slots))
+finish_queue n r flags ts b None = refuse 5 (Some b)
+finish_queue n r flags ts b (Some q) = finish_buffer n r flags ts b q (buffer_of r (queued_in (queue_of q b).slots))
 
 -- and of the stream that it names
 abbrev pub finish_stream : ℕ → ℕ → ℕ → ℕ → ℕ → Option Stream → Reply
-finish_stream n qt r flags ts none = refuse 5 none
-finish_stream n qt r flags ts (some b) = finish_queue n r flags ts b (queue_named qt)
+finish_stream n qt r flags ts None = refuse 5 None
+finish_stream n qt r flags ts (Some b) = finish_queue n r flags ts b (queue_named qt)
 
 -- finish: queue type, resource, flags, timestamp
 unfoldable pub on_finish : ℕ → ℕ → ℕ → ℕ → ℕ → Option Stream → Reply
@@ -68,13 +68,13 @@ drain_over b = not (input_queued b) && no_resource b.outputs.slots
 
 -- a pending drain is answered where it is over
 abbrev pub answer_drain : ℕ → Stream → Option ℕ → Reply
-answer_drain n b none = refuse 5 (some b)
-answer_drain n b (some t) =
+answer_drain n b None = refuse 5 (Some b)
+answer_drain n b (Some t) =
     cond (drain_over b)
-    (reply (record { ticket = t; stream = n; response = drain_done } ∷ []) (some (with_drain none b)))
-    (refuse 5 (some b))
+    (reply (record { ticket = t; stream = n; response = drain_done } ∷ []) (Some (with_drain None b)))
+    (refuse 5 (Some b))
 
 -- drained
 unfoldable pub on_drained : ℕ → Option Stream → Reply
-on_drained n none = refuse 5 none
-on_drained n (some b) = answer_drain n b b.draining
+on_drained n None = refuse 5 None
+on_drained n (Some b) = answer_drain n b b.draining

@@ -1,6 +1,6 @@
 -- Steps on a device, lists of steps, and what the host sees of them. A step, its ticket and its result are document 01's words.
 use Rattle.std.specs.Prelude.{ℕ, Bool, true, false, cond, not, ◌&&◌, ◌||◌, List, [], ◌∷◌, length, eqb, ltb}
-use Rattle.std.proofs.Math.Option.{Option, none, some}
+use Rattle.std.specs.Prelude.{Option, None, Some}
 use Rattle.laws.specs.Tests.{within}
 use Rattle.laws.specs.Lists.{any_of}
 use Rattle.field.specs.Field.{field}
@@ -25,9 +25,9 @@ pub record Step : Type 0 where
 
 -- the stream number in a step; a command without a whole header has none
 unfoldable pub stream_of : Act → Option ℕ
-stream_of (command t f) = cond (ltb (length f) header_bytes) none (some (stream_id f))
-stream_of (finish n qt r flags ts) = some n
-stream_of (drained n) = some n
+stream_of (command t f) = cond (ltb (length f) header_bytes) None (Some (stream_id f))
+stream_of (finish n qt r flags ts) = Some n
+stream_of (drained n) = Some n
 
 -- One stream
 
@@ -55,8 +55,8 @@ around d n = record { full = no_place d.places; unusable = not (ltb n stream_num
 
 -- the record of the stream n is looked up, served and put back
 abbrev pub perform_of : Device → Act → Option ℕ → DeviceReply
-perform_of d a none = refused 4 d
-perform_of d a (some n) =
+perform_of d a None = refused 4 d
+perform_of d a (Some n) =
     let v : Reply = serve (around d n) n (record_of n d.places) a in
     record { refusal = v.refusal; answers = v.answers; device = put_back n v.next d }
 
@@ -114,14 +114,14 @@ accepted e = eqb e.refusal 0 && not (any_of is_error (answers_of e))
 
 -- the owner, if there is one, is n
 abbrev pub is_owner : ℕ → Option ℕ → Bool
-is_owner n none = false
-is_owner n (some m) = eqb m n
+is_owner n None = false
+is_owner n (Some m) = eqb m n
 
 -- whose step it is, by the numbers of 01 and not by the device's own reading: the stream number in it, none in a command under 8 bytes
 unfoldable pub owner_of : Act → Option ℕ
-owner_of (command t f) = cond (ltb (length f) 8) none (some (field 4 f 4))
-owner_of (finish n qt r flags ts) = some n
-owner_of (drained n) = some n
+owner_of (command t f) = cond (ltb (length f) 8) None (Some (field 4 f 4))
+owner_of (finish n qt r flags ts) = Some n
+owner_of (drained n) = Some n
 
 -- a step belongs to its owner
 unfoldable pub belongs : ℕ → Event → Bool

@@ -1,6 +1,6 @@
 -- Which devices a valid table stands for, and the types of the host's numbers.
 use Rattle.std.specs.Prelude.{ℕ, ◌^◌, Bool, true, ◌&&◌, List, length, eqb, ltb}
-use Rattle.std.proofs.Math.Option.{Option, none, some}
+use Rattle.std.specs.Prelude.{Option, None, Some}
 use Rattle.laws.specs.Tests.{within}
 use Rattle.laws.specs.Lists.{all_of, numbers_in, distinct}
 use Rattle.model.specs.Numbers.{stream_places, queue_slots, stream_numbers, first_coded, last_coded}
@@ -43,8 +43,8 @@ good_queue q = good_slots q.slots && (good_extent q.width && (good_extent q.heig
 
 -- any ticket
 abbrev pub good_drain : Option ℕ → Bool
-good_drain none = true
-good_drain (some t) = u32 t
+good_drain None = true
+good_drain (Some t) = u32 t
 
 -- a coded format, a drain or none, two queues
 abbrev pub good_stream : Stream → Bool

@@ -1,7 +1,7 @@
 -- What runs or pauses was given a format and prepared.
 use mathlib.Core.Path.{◌≡◌, refl, sym, ◌∙◌}
 use mathlib.Core.Bool.{Bool, true, false, cond, not, ◌&&◌, or-true}
-use mathlib.Core.Option.{some}
+use Rattle.std.specs.Prelude.{Some}
 use mathlib.Core.List.{List, [], ◌∷◌, ◌++◌, append_assoc, append-nil}
 use Prim.Native.Nat.{ℕ}
 use native.Mathlib.Omega.{arith}
@@ -103,7 +103,7 @@ module _ (t : Transition) (codes : List ℕ) (c : Came t.out codes) where
 abbrev Kept : ℕ → ℕ → ℕ → Type 0
 Kept s k n = (codes : List ℕ) → Came s codes → Came n (codes ++ k ∷ [])
 
-came_next : (s k n : ℕ) → next_state s k ≡ some n → Kept s k n
+came_next : (s k n : ℕ) → next_state s k ≡ Some n → Kept s k n
 unfolding within
 came_next =
     by_transition Kept

@@ -1,7 +1,7 @@
 -- Each message takes a step of the machine, with the status that belongs to it; so every list is a walk.
 use mathlib.Core.Path.{◌≡◌, refl, sym, ap, ◌∙◌, subst}
 use mathlib.Core.Bool.{true, false}
-use mathlib.Core.Option.{Option, none, some, get_or}
+use Rattle.std.specs.Prelude.{Option, None, Some, unwrap_or}
 use mathlib.Core.List.{List, [], ◌∷◌}
 use Prim.Native.Nat.{ℕ, ◌<◌, ◌^◌}
 use lib.Dec.{ltb, lit<}
@@ -23,7 +23,7 @@ use Rattle.pcm.proofs.Machine.{next_is_state, next_is_transition}
 
 -- where it is taken, the machine leads there
 abbrev Leads : ℕ → ℕ → PcmReply → Type 0
-Leads s k (goes_to n) = next_state s k ≡ some n
+Leads s k (goes_to n) = next_state s k ≡ Some n
 Leads s k (rejects e) = Unit {0}
 
 leads : (config : PcmConfig) (s : ℕ) (m : List ℕ) → Leads s (code_in m) (on_control config s m)
@@ -32,9 +32,9 @@ leads config s m =
     tests_cases (Leads s (code_in m)) rejects _ (λ e. tt)
     (λ h₁ h₂ h₃ h₄ h₅ h₆ h₇ h₈ h₉ h₁₀. led (next_state s (code_in m)) refl h₇)
   where
-    led : (o : Option ℕ) → next_state s (code_in m) ≡ o → is_none (next_state s (code_in m)) ≡ false → Leads s (code_in m) (goes_to (get_or (next_state s (code_in m)) s))
-    led none is h = never (sym (ap is_none is) ∙ h)
-    led (some n) is h = subst (λ (o : Option ℕ). Leads s (code_in m) (goes_to (get_or o s))) (sym is) is
+    led : (o : Option ℕ) → next_state s (code_in m) ≡ o → is_none (next_state s (code_in m)) ≡ false → Leads s (code_in m) (goes_to (unwrap_or (next_state s (code_in m)) s))
+    led None is h = never (sym (ap is_none is) ∙ h)
+    led (Some n) is h = subst (λ (o : Option ℕ). Leads s (code_in m) (goes_to (unwrap_or o s))) (sym is) is
 
 -- The status of an answer is read back from its bytes
 status_below : (v : PcmReply) → status_of v < 256 ^ 4
@@ -50,7 +50,7 @@ status_back m v = field_back 4 (status_of v) _ (status_below v)
 
 -- by a transition where it succeeds, and else nowhere
 pub data Moved (s : ℕ) (e : PcmEvent) : Type 0 where
-  moves : succeeds e ≡ true → next_state s (code_in e.message.bytes) ≡ some e.state → Moved s e
+  moves : succeeds e ≡ true → next_state s (code_in e.message.bytes) ≡ Some e.state → Moved s e
   remains : succeeds e ≡ false → e.state ≡ s → Moved s e
 
 module _ (s : ℕ) (m : PcmMessage) where

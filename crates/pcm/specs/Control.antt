@@ -1,6 +1,6 @@
 -- A control message of the guest to the output stream: document 02, request 10, with the structs of document 001.
 use Rattle.std.specs.Prelude.{Bool, cond, not, ◌&&◌, List, [], ◌++◌, ℕ, ◌/◌, ◌%◌, ◌^◌, length, drop, eqb, leb, ltb}
-use Rattle.std.proofs.Math.Option.{get_or}
+use Rattle.std.specs.Prelude.{unwrap_or}
 use Rattle.laws.specs.Tests.{within}
 use Rattle.laws.specs.InOrder.{accept, ◌⇒◌then◌, by_tests}
 use Rattle.laws.specs.Lists.{is_none}
@@ -80,7 +80,7 @@ on_control config s m =
     setting && not (within (channels_in m) config.channels_min config.channels_max) ⇒ bad_msg then
     setting && not (supported last_format config.formats (format_in m)) ⇒ not_supp then
     setting && not (supported last_rate config.rates (rate_in m)) ⇒ not_supp then
-    accept (goes_to (get_or (next_state s k) s)))
+    accept (goes_to (unwrap_or (next_state s k) s)))
 
 -- The answer
 

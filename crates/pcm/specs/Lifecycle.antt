@@ -1,7 +1,7 @@
 -- The life of a PCM stream as a small machine: document 001, "PCM control requests", with what document 02, request 10, lets each state take.
 -- Transferring data, which the lifecycle of 001 names too, is no control request and leaves the state.
 use Rattle.std.specs.Prelude.{Bool, cond, ◌&&◌, List, [], ◌∷◌, ℕ, eqb}
-use Rattle.std.proofs.Math.Option.{Option, none, some}
+use Rattle.std.specs.Prelude.{Option, None, Some}
 use Rattle.laws.specs.Lists.{any_of}
 use Rattle.pcm.specs.Numbers.{set_format_code, prepare_code, start_code, stop_code, pause_code, unpause_code, pcm_fresh, pcm_set, pcm_prepared, pcm_running, pcm_paused, pcm_stopped}
 
@@ -34,8 +34,8 @@ lifecycle =
 
 -- the state that a request leads to by some transitions; none where it is out of order
 abbrev pub next_in : ℕ → ℕ → List Transition → Option ℕ
-next_in s k [] = none
-next_in s k (t ∷ ts) = cond (eqb t.out s && eqb t.request k) (some t.into) (next_in s k ts)
+next_in s k [] = None
+next_in s k (t ∷ ts) = cond (eqb t.out s && eqb t.request k) (Some t.into) (next_in s k ts)
 
 -- the same in the machine
 unfoldable pub next_state : ℕ → ℕ → Option ℕ

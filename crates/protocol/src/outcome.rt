@@ -1,35 +1,41 @@
 // What a step gives back.
 ghost use Rattle.std.specs.Prelude.{◌≡◌};
+ghost use Rattle.protocol.specs.Refusals.{outcome_of};
 
-// The refusals: of the host's first tests, of a command without a whole header, of reports, and of a line of the log.
-pub const SHORT_TABLE: u32 = 1;
-
-pub const INVALID_TABLE: u32 = 2;
-
-pub const SHORT_ROOM: u32 = 3;
-
-pub const SHORT_COMMAND: u32 = 4;
-
-pub const UNEXPECTED_REPORT: u32 = 5;
-
-pub const BAD_FLAGS: u32 = 6;
-
-pub const NO_FRAME: u32 = 7;
+// Why a step is refused: the host's first tests, a command without a whole header, reports, and a line of the log that is no frame.
+#[derive(Clone, Copy, Debug, PartialEq, Eq)]
+pub enum Refusal {
+    ShortTable = 1,
+    InvalidTable = 2,
+    ShortRoom = 3,
+    ShortCommand = 4,
+    UnexpectedReport = 5,
+    BadFlags = 6,
+    NoFrame = 7,
+}
 
 // The result of a step: the number of its refusal, or 0, and the bytes that it wrote. It crosses to the host as it is.
 #[repr(C)]
-#[derive(Clone, Copy)]
+#[derive(Clone, Copy, Debug, PartialEq, Eq)]
 pub struct Outcome {
     pub refusal: u32,
     pub written: u32,
 }
 
-// A refusal: nothing is written.
-pub fn refused(number: u32) -> Outcome
-    ensures { (result.refusal ≡ number) × (result.written ≡ 0) }
-{
-    Outcome {
-        refusal: number,
-        written: 0,
+// A refusal writes nothing.
+impl From<Result<u32, Refusal>> for Outcome {
+    ghost from_gives = { λ r o. o ≡ outcome_of r };
+
+    fn from(step: Result<u32, Refusal>) -> Outcome {
+        match step {
+            Ok(written) => Outcome {
+                refusal: 0,
+                written,
+            },
+            Err(refusal) => Outcome {
+                refusal: refusal as u32,
+                written: 0,
+            },
+        }
     }
 }

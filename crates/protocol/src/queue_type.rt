@@ -4,51 +4,44 @@ ghost use Rattle.model.specs.Device.{is_input};
 ghost use Rattle.model.specs.Frames.{queue_number, queue_named};
 ghost use Rattle.protocol.specs.QueueTypes.{queue_type_of, queue_meant};
 
-const INPUT: u32 = 0x0100;
-
-const OUTPUT: u32 = 0x0101;
-
-// One of a stream's two queues.
-#[derive(Clone, Copy)]
+// One of a stream's two queues, with its number.
+#[derive(Clone, Copy, Debug, PartialEq, Eq)]
 pub enum QueueType {
-    Input,
-    Output,
+    Input = 0x0100,
+    Output = 0x0101,
 }
 
-// The queue that a number names, or that it names neither.
-#[derive(Clone, Copy)]
-pub enum Named {
-    One(QueueType),
-    Neither,
-}
-
-// The queue of a queue type's number.
-pub fn queue_named(n: u32) -> Named
-    ensures { queue_meant result ≡ queue_named n }
-{
-    match n {
-        INPUT => Named::One(QueueType::Input),
-        OUTPUT => Named::One(QueueType::Output),
-        _ => Named::Neither,
+impl QueueType {
+    // Whether it is the input queue.
+    pub fn is_input(self) -> bool
+        ensures { result ≡ is_input (queue_type_of self) }
+    {
+        self == QueueType::Input
     }
 }
 
-// The number of a queue type.
-pub fn queue_number(q: QueueType) -> u32
-    ensures { result ≡ queue_number (queue_type_of q) }
-{
-    match q {
-        QueueType::Input => INPUT,
-        QueueType::Output => OUTPUT,
+// A number that names neither queue.
+#[derive(Clone, Copy, Debug, PartialEq, Eq)]
+pub struct NoQueue;
+
+impl TryFrom<u32> for QueueType {
+    type Error = NoQueue;
+
+    ghost try_from_gives = { λ n r. queue_meant r ≡ queue_named n };
+
+    fn try_from(n: u32) -> Result<Self, NoQueue> {
+        match n {
+            0x0100 => Ok(QueueType::Input),
+            0x0101 => Ok(QueueType::Output),
+            _ => Err(NoQueue),
+        }
     }
 }
 
-// Whether it is the input queue.
-pub fn is_input(q: QueueType) -> bool
-    ensures { result ≡ is_input (queue_type_of q) }
-{
-    match q {
-        QueueType::Input => true,
-        QueueType::Output => false,
+impl From<QueueType> for u32 {
+    ghost from_gives = { λ q n. n ≡ queue_number (queue_type_of q) };
+
+    fn from(q: QueueType) -> u32 {
+        q as u32
     }
 }

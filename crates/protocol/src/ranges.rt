@@ -14,29 +14,18 @@ const LEAST_EXTENT: u32 = 16;
 
 const MOST_EXTENT: u32 = 4096;
 
-// Whether x lies from lo to hi, both included.
-pub fn in_range(x: u32, lo: u32, hi: u32) -> bool
-    ensures { result ≡ within x lo hi }
-{
-    if x < lo {
-        return false;
-    }
-    x <= hi
-}
-
 // Whether a format is a coded one.
+#[tactic(auto, unfolding(laws::specs::Tests::within))]
 pub fn coded_good(format: u32) -> bool
     ensures { result ≡ within format first_coded last_coded }
 {
-    in_range(format, FIRST_CODED, LAST_CODED)
+    (FIRST_CODED..=LAST_CODED).contains(&format)
 }
 
 // Whether a width or a height is from 16 to 4,096, and even.
+#[tactic(auto, unfolding(laws::specs::Tests::within))]
 pub fn extent_good(v: u32) -> bool
     ensures { result ≡ good_extent v }
 {
-    if !in_range(v, LEAST_EXTENT, MOST_EXTENT) {
-        return false;
-    }
-    v % 2 == 0
+    (LEAST_EXTENT..=MOST_EXTENT).contains(&v) && v % 2 == 0
 }

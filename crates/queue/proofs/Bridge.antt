@@ -1,7 +1,7 @@
 -- What a search of the slots says in the model's own terms: for the functions above, which find a slot by its place and change it there.
 use mathlib.Core.Path.{◌≡◌, refl, sym, ap, ◌∙◌}
 use mathlib.Core.Bool.{true, false, not}
-use mathlib.Core.Option.{Option, none, some}
+use Rattle.std.specs.Prelude.{Option, None, Some, is_some}
 use mathlib.Core.List.{List, [], ◌∷◌}
 use Prim.Native.Nat.{ℕ, zero, suc, ◌<◌, ◌≤◌}
 use native.Mathlib.Nat.{le_of_suc-le-suc, not-suc-le-zero}
@@ -24,12 +24,12 @@ use Rattle.queue.proofs.Least.{key, nothing_below}
 
 -- the Queued buffer in a slot
 abbrev pub buffer_in : Slot → Option Buffer
-buffer_in free = none
-buffer_in (resource r created) = none
-buffer_in (resource r (queued t ts)) = some (buffer r t ts)
-buffer_in (resource r dequeued) = none
+buffer_in free = None
+buffer_in (resource r created) = None
+buffer_in (resource r (queued t ts)) = Some (buffer r t ts)
+buffer_in (resource r dequeued) = None
 
-queued_in_lem : (x : Slot) → is_queued x ≡ true → buffer_in x ≡ some (buffer (number_in x) (ticket_in x) (timestamp_in x))
+queued_in_lem : (x : Slot) → is_queued x ≡ true → buffer_in x ≡ Some (buffer (number_in x) (ticket_in x) (timestamp_in x))
 queued_in_lem free e = never (sym e)
 queued_in_lem (resource r created) e = never (sym e)
 queued_in_lem (resource r (queued t ts)) e = refl
@@ -46,7 +46,7 @@ absent_set r p [] h = refl
 absent_set r p (free ∷ s) h = ap (λ (l : List Slot). free ∷ l) (absent_set r p s h)
 absent_set r p (resource m q ∷ s) h = simp (buffer_other r m q s h, absent_set r p s (tail_absent r m q s h))
 
-pub absent_buffer : (r : ℕ) (s : List Slot) → present r s ≡ false → buffer_of r (queued_in s) ≡ none
+pub absent_buffer : (r : ℕ) (s : List Slot) → present r s ≡ false → buffer_of r (queued_in s) ≡ None
 absent_buffer r [] h = refl
 absent_buffer r (free ∷ s) h = absent_buffer r s h
 absent_buffer r (resource m created ∷ s) h = absent_buffer r s (tail_absent r m created s h)
@@ -101,7 +101,7 @@ has_resource : (r k : ℕ) (s : List Slot) (x : Slot) → k < length s → slot_
 has_resource r k s free h e t = never (sym t)
 has_resource r k s (resource m p) h e t = record { inside = h; state = p; slot = e ∙ ap (λ (n : ℕ). resource n p) (eqb-true m r t) }
 
-module _ (r k : ℕ) (s : List Slot) (found : find_resource r s ≡ some k) where
+module _ (r k : ℕ) (s : List Slot) (found : find_resource r s ≡ Some k) where
   pub find_has : HasResource r k s
   find_has =
       has_resource r k s (slot_at k s) (position_below (is_resource r) free s (length s) refl k found) refl (position_holds (is_resource r) free s (length s) refl k found)
@@ -128,29 +128,34 @@ module _ (r k : ℕ) (s : List Slot) (found : find_resource r s ≡ some k) wher
       go (resource m (queued t ts)) = refl
       go (resource m dequeued) = refl
 
-  pub find_ticket : Distinct s → is_queued (slot_at k s) ≡ true → buffer_of r (queued_in s) ≡ some (buffer r (ticket_in (slot_at k s)) (timestamp_in (slot_at k s)))
-  find_ticket d t = find_buffer d ∙ queued_in_lem (slot_at k s) t ∙ ap (λ (n : ℕ). some (buffer n (ticket_in (slot_at k s)) (timestamp_in (slot_at k s)))) find_number
+  pub find_ticket : Distinct s → is_queued (slot_at k s) ≡ true → buffer_of r (queued_in s) ≡ Some (buffer r (ticket_in (slot_at k s)) (timestamp_in (slot_at k s)))
+  find_ticket d t = find_buffer d ∙ queued_in_lem (slot_at k s) t ∙ ap (λ (n : ℕ). Some (buffer n (ticket_in (slot_at k s)) (timestamp_in (slot_at k s)))) find_number
 
-pub find_absent : (r : ℕ) (s : List Slot) → find_resource r s ≡ none → present r s ≡ false
+pub find_absent : (r : ℕ) (s : List Slot) → find_resource r s ≡ None → present r s ≡ false
 find_absent r [] e = refl
 find_absent r (free ∷ s) e = find_absent r s (later_none (find_resource r s) e)
-find_absent r (resource m p ∷ s) e = decide (eqb m r) (λ t. let z : some 0 ≡ none = simp t at e in cc) (λ t. simp t (find_absent r s (later_none (find_resource r s) (simp t at e))))
+find_absent r (resource m p ∷ s) e = decide (eqb m r) (λ t. let z : Some 0 ≡ None = simp t at e in cc) (λ t. simp t (find_absent r s (later_none (find_resource r s) (simp t at e))))
+
+-- it is there where its slot is found
+pub found_present : (r : ℕ) (s : List Slot) (o : Option ℕ) → o ≡ find_resource r s → is_some o ≡ present r s
+found_present r s None e = sym (find_absent r s (sym e))
+found_present r s (Some k) e = sym (find_present r k s (sym e))
 
 -- The lowest free slot
 
-pub free_room : (k : ℕ) (s : List Slot) → find_free s ≡ some k → no_slot s ≡ false
+pub free_room : (k : ℕ) (s : List Slot) → find_free s ≡ Some k → no_slot s ≡ false
 free_room k [] e = cc
 free_room k (free ∷ s) e = refl
 free_room k (resource m p ∷ s) e = let w = later_some (find_free s) k e in free_room w.0 s w.1
 
-pub free_add : (r k : ℕ) (s : List Slot) → find_free s ≡ some k → add_resource r s ≡ set s k (resource r created)
+pub free_add : (r k : ℕ) (s : List Slot) → find_free s ≡ Some k → add_resource r s ≡ set s k (resource r created)
 free_add r k [] e = cc
 free_add r k (free ∷ s) e = let z : 0 ≡ k = cc in rw (sym z)
 free_add r k (resource m p ∷ s) e =
     let w = later_some (find_free s) k e in
     rw w.2 (ap (λ (l : List Slot). resource m p ∷ l) (free_add r w.0 s w.1))
 
-pub free_none : (s : List Slot) → find_free s ≡ none → no_slot s ≡ true
+pub free_none : (s : List Slot) → find_free s ≡ None → no_slot s ≡ true
 free_none [] e = refl
 free_none (free ∷ s) e = cc
 free_none (resource m p ∷ s) e = free_none s (later_none (find_free s) e)
@@ -174,20 +179,20 @@ record Queues (x : Slot) (b : Buffer) : Type 0 where
   pub slot : x ≡ resource (number_in x) (queued (ticket_in x) (timestamp_in x))
   pub buffer_is : b ≡ buffer (number_in x) (ticket_in x) (timestamp_in x)
 
-queues : (x : Slot) (b : Buffer) → buffer_in x ≡ some b → Queues x b
+queues : (x : Slot) (b : Buffer) → buffer_in x ≡ Some b → Queues x b
 queues free b e = absurd (let z : ◌≡◌ {A = ℕ} 0 1 = cc in omega arith)
 queues (resource r created) b e = absurd (let z : ◌≡◌ {A = ℕ} 0 1 = cc in omega arith)
 queues (resource r (queued t ts)) b e = record { is_queued_lem = refl; slot = refl; buffer_is = let is : b ≡ buffer r t ts = cc in is }
 queues (resource r dequeued) b e = absurd (let z : ◌≡◌ {A = ℕ} 0 1 = cc in omega arith)
 
-none_kept : (m : ℕ) (l : List Buffer) → buffer_of m l ≡ none → keep (is_res m) l ≡ []
+none_kept : (m : ℕ) (l : List Buffer) → buffer_of m l ≡ None → keep (is_res m) l ≡ []
 none_kept m [] e = refl
-none_kept m (x ∷ l) e = decide (eqb (key x) m) (λ t. let z : some x ≡ none = simp t at e in cc) (λ t. simp t (none_kept m l (simp t at e)))
+none_kept m (x ∷ l) e = decide (eqb (key x) m) (λ t. let z : Some x ≡ None = simp t at e in cc) (λ t. simp t (none_kept m l (simp t at e)))
 
 one_sorted : (o : Option Buffer) → ascending key (to_list o) ≡ to_list o
 unfolding insert_by
-one_sorted none = refl
-one_sorted (some x) = refl
+one_sorted None = refl
+one_sorted (Some x) = refl
 
 empty_sorted : (l : List Buffer) → ascending key l ≡ [] → l ≡ []
 empty_sorted l e = no_element l (sym (length_ascending key l) ∙ ap length e)
@@ -201,8 +206,8 @@ module _ (least : ℕ) (s : List Slot) (d : Distinct s) where
   only m = go (buffer_of m (queued_in s)) refl
     where
       go : (o : Option Buffer) → buffer_of m (queued_in s) ≡ o → keep (is_res m) (queued_in s) ≡ to_list o
-      go none e = none_kept m (queued_in s) e
-      go (some x) e = queued_only m x s d e
+      go None e = none_kept m (queued_in s) e
+      go (Some x) e = queued_only m x s d e
 
   -- those of one number among them
   of_number : (m : ℕ) → keep (is_res m) left ≡ keep (not_below key least) (to_list (buffer_of m (queued_in s)))
@@ -213,22 +218,22 @@ module _ (least : ℕ) (s : List Slot) (d : Distinct s) where
 
   module _ (b : Buffer) (rest : List Buffer) (e : left ≡ b ∷ rest) where
     -- the first of them is the buffer of its number, and from `least` on
-    first_is : (buffer_of (key b) (queued_in s) ≡ some b) × (least ≤ key b)
+    first_is : (buffer_of (key b) (queued_in s) ≡ Some b) × (least ≤ key b)
     unfolding not_below
     first_is = go (buffer_of (key b) (queued_in s)) refl
       where
         mine : keep (is_res (key b)) left ≡ b ∷ keep (is_res (key b)) rest
         mine = rw (e, eq-eqb (key b) (key b) refl)
 
-        go : (o : Option Buffer) → buffer_of (key b) (queued_in s) ≡ o → (buffer_of (key b) (queued_in s) ≡ some b) × (least ≤ key b)
-        go none h = absurd (let q : [] ≡ b ∷ keep (is_res (key b)) rest = sym (of_number (key b) ∙ ap (λ (o : Option Buffer). keep (not_below key least) (to_list o)) h) ∙ mine in let z : ◌≡◌ {A = ℕ} 0 1 = cc in omega arith)
-        go (some x) h =
+        go : (o : Option Buffer) → buffer_of (key b) (queued_in s) ≡ o → (buffer_of (key b) (queued_in s) ≡ Some b) × (least ≤ key b)
+        go None h = absurd (let q : [] ≡ b ∷ keep (is_res (key b)) rest = sym (of_number (key b) ∙ ap (λ (o : Option Buffer). keep (not_below key least) (to_list o)) h) ∙ mine in let z : ◌≡◌ {A = ℕ} 0 1 = cc in omega arith)
+        go (Some x) h =
             let q : keep (not_below key least) (x ∷ []) ≡ b ∷ keep (is_res (key b)) rest = sym (of_number (key b) ∙ ap (λ (o : Option Buffer). keep (not_below key least) (to_list o)) h) ∙ mine in
             decide (ltb (key x) least)
             (λ t. absurd (let p : [] ≡ b ∷ keep (is_res (key b)) rest = simp t at q in let z : ◌≡◌ {A = ℕ} 0 1 = cc in omega arith))
             (λ t. let p : x ∷ [] ≡ b ∷ keep (is_res (key b)) rest = simp t at q in
             let is : x ≡ b = cc in
-            (h ∙ ap some is, rw is at (ltb-false (key x) least t)))
+            (h ∙ ap Some is, rw is at (ltb-false (key x) least t)))
 
     sorted_left : sorted key left ≡ true
     unfolding left
@@ -247,11 +252,11 @@ module _ (least : ℕ) (s : List Slot) (d : Distinct s) where
     unfolding left
     in_order = ascending_next key (queued_in s) least b first_is.1 (queued_only (key b) b s d first_is.0) skipped
 
-  pub next_found : (k : ℕ) → next_queued least s ≡ some k → Next least k s
+  pub next_found : (k : ℕ) → next_queued least s ≡ Some k → Next least k s
   unfolding next_queued left
   next_found k found = go left refl found
     where
-      go : (l : List Buffer) → left ≡ l → slot_of_first l s ≡ some k → Next least k s
+      go : (l : List Buffer) → left ≡ l → slot_of_first l s ≡ Some k → Next least k s
       go [] e f = absurd (let z : ◌≡◌ {A = ℕ} 0 1 = cc in omega arith)
       go (b ∷ rest) e f =
           let x = slot_at k s in
@@ -265,12 +270,12 @@ module _ (least : ℕ) (s : List Slot) (d : Distinct s) where
             order = in_order b rest e ∙ rw w.buffer_is;
           }
 
-  pub next_missed : next_queued least s ≡ none → keep (not_below (λ (i : Buffer). i.resource) least) (by_resource (queued_in s)) ≡ []
+  pub next_missed : next_queued least s ≡ None → keep (not_below (λ (i : Buffer). i.resource) least) (by_resource (queued_in s)) ≡ []
   unfolding next_queued left
   next_missed missed = go left refl missed
     where
-      go : (l : List Buffer) → left ≡ l → slot_of_first l s ≡ none → left ≡ []
+      go : (l : List Buffer) → left ≡ l → slot_of_first l s ≡ None → left ≡ []
       go [] e f = e
       go (b ∷ rest) e f =
-          let z : some b ≡ none = sym (first_is b rest e).0 ∙ absent_buffer (key b) s (find_absent (key b) s f) in
+          let z : Some b ≡ None = sym (first_is b rest e).0 ∙ absent_buffer (key b) s (find_absent (key b) s f) in
           cc

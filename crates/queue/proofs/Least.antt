@@ -1,9 +1,9 @@
 -- Laws of the lowest number of the Queued buffers, for a loop from the last slot to the first, and of the slot that has it.
 use mathlib.Core.Path.{◌≡◌, refl, sym, ap, ◌∙◌}
 use mathlib.Core.Bool.{true, false, cond}
-use mathlib.Core.Option.{Option, none, some}
+use Rattle.std.specs.Prelude.{Option, None, Some}
 use mathlib.Core.List.{List, [], ◌∷◌}
-use Prim.Native.Nat.{ℕ, ◌+◌, ◌^◌, ◌<◌, ◌≤◌}
+use Prim.Native.Nat.{ℕ, ◌+◌, ◌<◌, ◌≤◌}
 use native.Mathlib.Omega.{arith}
 use lib.ListN.{length, drop, drop_of_length-le}
 use lib.Dec.{ltb, leb}
@@ -15,16 +15,16 @@ use Rattle.laws.proofs.Lists.{decide, keep_ascending}
 use Rattle.laws.proofs.Ascending.{ascending_sorted}
 use Rattle.model.specs.Device.{Slot, Buffer, buffer, queued_in, by_resource}
 use Rattle.queue.specs.Search.{slot_at, is_queued, number_in, ticket_in, timestamp_in, find_resource, slot_of_first, next_queued}
-use Rattle.queue.specs.Lowest.{number_of_first, lowest_queued, as_number}
+use Rattle.queue.specs.Lowest.{number_of_first, lowest_queued}
 use Rattle.queue.proofs.Finds.{queued_here, queued_later}
 
 abbrev pub key : Buffer → ℕ
 key i = i.resource
 
 -- the lower of a number and of one that may be there
-abbrev lower_of : ℕ → Option ℕ → Option ℕ
-lower_of m none = some m
-lower_of m (some n) = cond (ltb m n) (some m) (some n)
+abbrev pub lower_of : ℕ → Option ℕ → Option ℕ
+lower_of m None = Some m
+lower_of m (Some n) = cond (ltb m n) (Some m) (Some n)
 
 pub nothing_below : (k : ℕ) (l : List Buffer) (n : ℕ) → k ≤ n → all_of (λ y. leb n (key y)) l ≡ true → keep (below key k) l ≡ []
 unfolding below
@@ -43,7 +43,7 @@ insert_first x (y ∷ l) e =
     (λ t. let high = ltb-false (key y) (key x) t in
     let rest : keep (λ z. ltb (key z) (key x)) l ≡ [] = nothing_below (key x) l (key y) high (and_left (all_of (λ z. leb (key y) (key z)) l) (sorted key l) e) in
     rw (t, rest)
-    (decide (ltb (key x) (key y)) (λ u. rw u) (λ u. rw u (let same : key x ≡ key y = omega (arith, ltb-false (key x) (key y) u) in ap some same))))
+    (decide (ltb (key x) (key y)) (λ u. rw u) (λ u. rw u (let same : key x ≡ key y = omega (arith, ltb-false (key x) (key y) u) in ap Some same))))
 
 lowest : ℕ → List Buffer → Option ℕ
 lowest k l = number_of_first (keep (not_below key k) (by_resource l))
@@ -62,33 +62,21 @@ lowest_take k x l h =
     ∙ insert_first x (ascending key (keep (not_below key k) l)) (ascending_sorted key (keep (not_below key k) l))
     ∙ ap (λ (m : List Buffer). lower_of (key x) (number_of_first m)) (sym (keep_ascending key (not_below key k) l))
 
--- the word that stands for a number
-pub number_is : (n : ℕ) → n < 2 ^ 32 → as_number n ≡ some n
-unfolding as_number
-number_is n h = rw (lt-ltb n (2 ^ 32) h)
-
-pub number_none : (n : ℕ) → 2 ^ 32 ≤ n → as_number n ≡ none
-unfolding as_number
-number_none n h = rw (le-ltb n (2 ^ 32) h)
-
-lower_keeps : (m n : ℕ) → m < 2 ^ 32 → n ≤ m → lower_of m (as_number n) ≡ as_number n
-lower_keeps m n h l = rw (number_is n (omega arith), le-ltb m n l)
-
-lower_takes : (m n : ℕ) → m < 2 ^ 32 → m < n → lower_of m (as_number n) ≡ as_number m
-lower_takes m n h l =
-    decide (ltb n (2 ^ 32))
-    (λ t. rw (number_is n (ltb-true n (2 ^ 32) t), number_is m h, lt-ltb m n l))
-    (λ t. rw (number_none n (ltb-false n (2 ^ 32) t), number_is m h))
-
 -- behind the last slot there is none
-pub lowest_end : (k : ℕ) (s : List Slot) (i : ℕ) → length s ≤ i → as_number 4294967296 ≡ lowest_queued k (drop i s)
-unfolding lowest_queued as_number
+pub lowest_end : (k : ℕ) (s : List Slot) (i : ℕ) → length s ≤ i → None ≡ lowest_queued k (drop i s)
+unfolding lowest_queued
 lowest_end k s i h = ap (λ (l : List Slot). number_of_first (keep (not_below key k) (by_resource (queued_in l)))) (sym (drop_of_length-le s {i = i} h))
 
--- One slot more: n stands for the lowest number behind slot i
+pub lower_stays : (m n : ℕ) → n ≤ m → lower_of m (Some n) ≡ Some n
+lower_stays m n h = rw (le-ltb m n h)
 
-module _ (k : ℕ) (s : List Slot) (i : ℕ) (h : i < length s) (n : ℕ) (e : as_number n ≡ lowest_queued k (drop (i + 1) s)) where
-  pub lowest_other : is_queued (slot_at i s) ≡ false → as_number n ≡ lowest_queued k (drop i s)
+pub lower_takes : (m n : ℕ) → m < n → lower_of m (Some n) ≡ Some m
+lower_takes m n h = rw (lt-ltb m n h)
+
+-- One slot more: o is the lowest number behind slot i
+
+module _ (k : ℕ) (s : List Slot) (i : ℕ) (h : i < length s) (o : Option ℕ) (e : o ≡ lowest_queued k (drop (i + 1) s)) where
+  pub lowest_other : is_queued (slot_at i s) ≡ false → o ≡ lowest_queued k (drop i s)
   unfolding lowest_queued
   lowest_other t = e ∙ ap (λ (l : List Buffer). number_of_first (keep (not_below key k) (by_resource l))) (sym (queued_later s i h t))
 
@@ -97,35 +85,30 @@ module _ (k : ℕ) (s : List Slot) (i : ℕ) (h : i < length s) (n : ℕ) (e : a
     unfolding lowest_queued lowest
     here = ap (λ (l : List Buffer). number_of_first (keep (not_below key k) (by_resource l))) (queued_here s i h t)
 
-    behind : lowest k (queued_in (drop (i + 1) s)) ≡ as_number n
+    behind : lowest k (queued_in (drop (i + 1) s)) ≡ o
     unfolding lowest_queued lowest
     behind = sym e
 
-    pub lowest_below_lem : number_in (slot_at i s) < k → as_number n ≡ lowest_queued k (drop i s)
+    pub lowest_below_lem : number_in (slot_at i s) < k → o ≡ lowest_queued k (drop i s)
     lowest_below_lem b = sym (here ∙ lowest_skip k _ (queued_in (drop (i + 1) s)) b ∙ behind)
 
-    pub lowest_stays : number_in (slot_at i s) < 2 ^ 32 → k ≤ number_in (slot_at i s) → n ≤ number_in (slot_at i s) → as_number n ≡ lowest_queued k (drop i s)
-    lowest_stays w b l =
-        sym (here ∙ lowest_take k _ (queued_in (drop (i + 1) s)) b ∙ ap (lower_of (number_in (slot_at i s))) behind ∙ lower_keeps (number_in (slot_at i s)) n w l)
-
-    pub lowest_new : number_in (slot_at i s) < 2 ^ 32 → k ≤ number_in (slot_at i s) → number_in (slot_at i s) < n → as_number (number_in (slot_at i s)) ≡ lowest_queued k (drop i s)
-    lowest_new w b l =
-        sym (here ∙ lowest_take k _ (queued_in (drop (i + 1) s)) b ∙ ap (lower_of (number_in (slot_at i s))) behind ∙ lower_takes (number_in (slot_at i s)) n w l)
+    pub lowest_lower : k ≤ number_in (slot_at i s) → lower_of (number_in (slot_at i s)) o ≡ lowest_queued k (drop i s)
+    lowest_lower b = sym (here ∙ lowest_take k _ (queued_in (drop (i + 1) s)) b ∙ ap (lower_of (number_in (slot_at i s))) behind)
 
 -- The slot with the lowest number
 
-first_slot_lem : (l : List Buffer) (s : List Slot) (m : ℕ) → number_of_first l ≡ some m → slot_of_first l s ≡ find_resource m s
+first_slot_lem : (l : List Buffer) (s : List Slot) (m : ℕ) → number_of_first l ≡ Some m → slot_of_first l s ≡ find_resource m s
 first_slot_lem [] s m e = cc
 first_slot_lem (x ∷ l) s m e = let same : key x ≡ m = cc in ap (λ (n : ℕ). find_resource n s) same
 
-no_slot_lem : (l : List Buffer) (s : List Slot) → number_of_first l ≡ none → slot_of_first l s ≡ none
+no_slot_lem : (l : List Buffer) (s : List Slot) → number_of_first l ≡ None → slot_of_first l s ≡ None
 no_slot_lem [] s e = refl
 no_slot_lem (x ∷ l) s e = cc
 
-pub next_at : (k : ℕ) (s : List Slot) (m : ℕ) → lowest_queued k s ≡ some m → next_queued k s ≡ find_resource m s
+pub next_at : (k : ℕ) (s : List Slot) (m : ℕ) → lowest_queued k s ≡ Some m → next_queued k s ≡ find_resource m s
 unfolding lowest_queued next_queued
 next_at k s m e = first_slot_lem (keep (not_below key k) (by_resource (queued_in s))) s m e
 
-pub next_none : (k : ℕ) (s : List Slot) → lowest_queued k s ≡ none → next_queued k s ≡ none
+pub next_none : (k : ℕ) (s : List Slot) → lowest_queued k s ≡ None → next_queued k s ≡ None
 unfolding lowest_queued next_queued
 next_none k s e = no_slot_lem (keep (not_below key k) (by_resource (queued_in s))) s e

@@ -1,5 +1,4 @@
 pub mod Words
 pub mod Search
-pub mod Found
 pub mod Lowest
 pub mod Changes

@@ -1,6 +1,6 @@
 -- What a search of a queue's slots finds. A slot is named by its place, counted from 0.
 use Rattle.std.specs.Prelude.{ℕ, Bool, true, false, List, [], ◌∷◌, get_or, eqb}
-use Rattle.std.proofs.Math.Option.{Option, none}
+use Rattle.std.specs.Prelude.{Option, None}
 use Rattle.laws.specs.Lists.{keep, position}
 use Rattle.laws.specs.Ascending.{not_below}
 use Rattle.model.specs.Device.{created, queued, dequeued, Slot, free, resource, Buffer, queued_in, by_resource}
@@ -52,7 +52,7 @@ find_free s = position is_free s
 
 -- the first of some buffers is in the slot of its number
 abbrev pub slot_of_first : List Buffer → List Slot → Option ℕ
-slot_of_first [] s = none
+slot_of_first [] s = None
 slot_of_first (i ∷ l) s = find_resource i.resource s
 
 -- the slot of the Queued buffer with the lowest number from `least` on

@@ -54,10 +54,8 @@ pub fn stop_all(q: &mut [u32])
     requires { length q.old ≡ 84 }
     ensures { (Q : Queue) → q.old ≡ queue_words Q → q.new ≡ queue_words (with_slots (stop_all Q.slots) Q) }
 {
-    let mut i = 0;
-    while i < SLOTS {
+    for i in 0..SLOTS {
         stop_slot(q, i);
-        i += 1;
     }
 }
 
@@ -66,9 +64,7 @@ pub fn free_all(q: &mut [u32])
     requires { length q.old ≡ 84 }
     ensures { (Q : Queue) → q.old ≡ queue_words Q → q.new ≡ queue_words (with_slots (free_all Q.slots) Q) }
 {
-    let mut k = 0;
-    while k < SLOTS {
+    for k in 0..SLOTS {
         set_free(q, k);
-        k += 1;
     }
 }

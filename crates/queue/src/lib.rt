@@ -17,10 +17,3 @@ pub use slots::{
 
 // The words of a queue.
 pub const QUEUE_WORDS: usize = 84;
-
-// The place that a search found.
-#[derive(Clone, Copy)]
-pub enum Found {
-    At(usize),
-    Nothing,
-}

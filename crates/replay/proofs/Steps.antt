@@ -1,7 +1,7 @@
 -- What a line's step gives back, in the form in which the code has it.
 use mathlib.Core.Path.{◌≡◌, refl, sym, ap, ◌∙◌, subst}
 use mathlib.Core.Bool.{Bool, true, false, cond}
-use mathlib.Core.List.{List}
+use mathlib.Core.List.{List, []}
 use Prim.Native.Nat.{ℕ, ◌≤◌, ◌<◌}
 use native.Mathlib.Omega.{arith}
 use lib.Dec.{eqb, leb}
@@ -9,7 +9,8 @@ use lib.ListN.{length, take, length-take}
 use borrow.Author.Tests.{leb-true, eqb-true}
 use Rattle.laws.specs.Stores.{Wrote}
 use Rattle.laws.proofs.Stores.{wrote_none}
-use Rattle.laws.proofs.Parts.{take_some}
+use Rattle.laws.specs.Lists.{is_empty}
+use Rattle.laws.proofs.Tests.{was_true, was_false}
 use Rattle.laws.proofs.Lists.{decide}
 use Rattle.model.specs.Numbers.{answer_room}
 use Rattle.model.specs.Steps.{Act, command, finish, drained}
@@ -66,49 +67,40 @@ logged_refused L t line k {out} {out'} {r} e w = subst (λ (x : Logged). Logs x 
 
 -- A call on a piece
 
-module _ (L : Layout) (t line piece held out : List ℕ) (ended : Bool) (used have : ℕ) (e : record { ended = ended; used = used; line = take have held } ≡ split line piece) where
+module _ (L : Layout) (t line piece kept out : List ℕ) where
   -- the line has not ended
-  pub call_open : ended ≡ false → Did (on_piece L (record { table = t; line = line }) piece) (record { used = used; have = have; written = 0 }) t held out out
+  pub call_open : record { ended = false; used = length piece; line = kept } ≡ split line piece
+      → Did (on_piece L (record { table = t; line = line }) piece) (record { used = length piece; written = 0 }) t kept out out
   unfolding on_piece
-  call_open f =
-      subst (λ (s : Split). Did (on_split L t s) (record { used = used; have = have; written = 0 }) t held out out)
-      (ap (λ (b : Bool). record { ended = b; used = used; line = take have held }) (sym f) ∙ e)
+  call_open e =
+      subst (λ (s : Split). Did (on_split L t s) (record { used = length piece; written = 0 }) t kept out out) e
       (record { used = refl; wrote = wrote_none out 0; table = refl; line = refl })
 
   -- it has, and was stepped
-  pub call_ended : {out' t' : List ℕ} {n : ℕ} → ended ≡ true → Logs (line_step L t (take have held)) n t' out out'
-      → Did (on_piece L (record { table = t; line = line }) piece) (record { used = used; have = 0; written = n }) t' held out out'
+  pub call_ended : {used n : ℕ} {out' t' cleared : List ℕ} → record { ended = true; used = used; line = kept } ≡ split line piece → cleared ≡ [] → Logs (line_step L t kept) n t' out out'
+      → Did (on_piece L (record { table = t; line = line }) piece) (record { used = used; written = n }) t' cleared out out'
   unfolding on_piece
-  call_ended {out'} {t'} {n} f w =
-      subst (λ (s : Split). Did (on_split L t s) (record { used = used; have = 0; written = n }) t' held out out')
-      (ap (λ (b : Bool). record { ended = b; used = used; line = take have held }) (sym f) ∙ e)
-      (record { used = refl; wrote = w.wrote; table = w.table; line = refl })
+  call_ended {used} {n} {out'} {t'} {cleared} e f w =
+      subst (λ (s : Split). Did (on_split L t s) (record { used = used; written = n }) t' cleared out out') e
+      (record { used = refl; wrote = w.wrote; table = w.table; line = f })
 
 -- The end of the log
 
-module _ (L : Layout) (t held : List ℕ) (have : ℕ) where
-  pub end_empty : {out : List ℕ} → have ≡ 0 → Logs (last_step L (record { table = t; line = take have held })) 0 t out out
+module _ (L : Layout) (t line : List ℕ) {empty : Bool} (is : empty ≡ is_empty line) where
+  pub end_empty : {out : List ℕ} → empty ≡ true → Logs (last_step L (record { table = t; line = line })) 0 t out out
   unfolding last_step
-  end_empty {out} e = rw e (record { wrote = wrote_none out 0; table = refl })
+  end_empty {out} e = rw (was_true is e) (record { wrote = wrote_none out 0; table = refl })
 
-  pub end_line : {out out' t' : List ℕ} {n : ℕ} → (have ≡ 0 → ⊥) → have ≤ length held → Logs (line_step L t (take have held)) n t' out out'
-      → Logs (last_step L (record { table = t; line = take have held })) n t' out out'
+  pub end_line : {out out' t' : List ℕ} {n : ℕ} → empty ≡ false → Logs (line_step L t line) n t' out out' → Logs (last_step L (record { table = t; line = line })) n t' out out'
   unfolding last_step
-  end_line ne h w = rw (take_some have held ne h) w
-
--- the same call, and the same step, by an equal one
-pub as_call : {c d : Call} {r : Fed} {t held out out' : List ℕ} → c ≡ d → Did c r t held out out' → Did d r t held out out'
-as_call {r = r} {t} {held} {out} {out'} e x = subst (λ (y : Call). Did y r t held out out') e x
-
-pub as_logged : {s u : Logged} {r : ℕ} {t out out' : List ℕ} → s ≡ u → Logs s r t out out' → Logs u r t out out'
-as_logged {r = r} {t} {out} {out'} e x = subst (λ (y : Logged). Logs y r t out out') e x
+  end_line e w = rw (was_false is e) w
 
 -- a call uses no more than its piece has, and a byte or more where it has any
 cond_used : (b : Bool) (x y : Call) (n : ℕ) → x.used ≡ n → y.used ≡ n → (cond b x y).used ≡ n
 cond_used true x y n e f = e
 cond_used false x y n e f = f
 
-pub used_some : {c : Fed} {t held out out' : List ℕ} (r : Reader) (piece : List ℕ) → Did (on_piece layout r piece) c t held out out' → (c.used ≤ length piece) × (0 < length piece → 0 < c.used)
+pub used_some : {c : Fed} {t line out out' : List ℕ} (r : Reader) (piece : List ℕ) → Did (on_piece layout r piece) c t line out out' → (c.used ≤ length piece) × (0 < length piece → 0 < c.used)
 unfolding on_piece
 used_some r piece did =
     let s = split r.line piece in

@@ -1,5 +1,5 @@
 -- What a call on a line or on a piece of the log gives back and leaves.
-use Rattle.std.specs.Prelude.{◌≡◌, List, ℕ, take}
+use Rattle.std.specs.Prelude.{◌≡◌, List, ℕ}
 use Rattle.laws.specs.Stores.{Wrote}
 use Rattle.line.specs.Log.{Logged}
 use Rattle.line.specs.Reading.{Call}
@@ -10,10 +10,9 @@ pub record Logs (s : Logged) (r : ℕ) (t out out' : List ℕ) : Type 0 where
   pub wrote : Wrote out out' 0 r s.text
   pub table : t ≡ s.table
 
--- the result, the table and the kept line at the exit, and the output that went from out to out', are those of a call; what stands in `held`
--- behind the kept line is free
-pub record Did (c : Call) (r : Fed) (t held out out' : List ℕ) : Type 0 where
+-- the result, the table and the kept line at the exit, and the output that went from out to out', are those of a call
+pub record Did (c : Call) (r : Fed) (t kept out out' : List ℕ) : Type 0 where
   pub used : r.used ≡ c.used
   pub wrote : Wrote out out' 0 r.written c.text
   pub table : t ≡ c.reader.table
-  pub line : take r.have held ≡ c.reader.line
+  pub line : kept ≡ c.reader.line

@@ -1,74 +1,33 @@
 -- What a message comes to, by what the code's checks of it gave.
 use mathlib.Core.Path.{◌≡◌, refl, sym, ap, ◌∙◌}
 use mathlib.Core.Bool.{true, false, not, ◌&&◌}
-use mathlib.Core.Option.{Option, none, some, get_or}
+use Rattle.std.specs.Prelude.{None, Some, unwrap_or, Result, Ok, Err}
+use Rattle.std.specs.Result.{result_unwrap_or}
 use mathlib.Core.List.{List, ◌++◌, append-nil}
-use Prim.Native.Nat.{ℕ, ◌≤◌, ◌<◌}
+use Prim.Native.Nat.{ℕ, ◌≤◌}
 use native.Mathlib.Nat.{zero-add}
 use native.Mathlib.Omega.{arith}
 use lib.Dec.{eqb}
 use lib.ListN.{length, drop, length-append, length-drop}
 use lib.Seq.{sets, sets-eq, length-sets, length-take-le}
-use borrow.Author.Tests.{le-leb, lt-leb, leb-true, lt-ltb, le-ltb, ltb-false, eqb-true, not-false, eq-eqb, ne_eqb}
+use borrow.Author.Tests.{le-leb, le-ltb, eq-eqb, ne_eqb}
 use Rattle.laws.specs.Tests.{within}
 use Rattle.laws.specs.InOrder.{TestList, accept, ◌⇒◌then◌, by_tests, first_hit}
 use Rattle.laws.specs.Lists.{is_none}
 use Rattle.laws.specs.Parts.{part, with_part, zeros}
 use Rattle.laws.specs.Stores.{Wrote}
 use Rattle.field.specs.Field.{little_endian}
-use Rattle.laws.proofs.Lists.{decide}
 use Rattle.laws.proofs.Parts.{zero_length}
 use Rattle.laws.proofs.Stores.{sets_next, sets_with_part, wrote_sets}
 use Rattle.field.proofs.Laws.{length_little_endian}
-use Rattle.laws.proofs.InOrder.{tests_accept, tests_hit, no_hit, ahead, ahead_hits, ahead_misses}
-use Rattle.pcm.specs.Numbers.{set_format_code, unpause_code, status_ok, PcmError, bad_msg, not_supp, error_status, last_format, last_rate, pcm_header, set_format_bytes, status_bytes, chmap_bytes, control_room, pcm_stopped}
+use Rattle.laws.proofs.InOrder.{tests_accept, tests_hit, ahead, ahead_hits, ahead_misses}
+use Rattle.pcm.specs.Numbers.{set_format_code, PcmError, bad_msg, not_supp, last_format, last_rate, status_bytes, chmap_bytes, control_room, pcm_stopped}
 use Rattle.pcm.specs.Lifecycle.{next_state}
-use Rattle.pcm.specs.Control.{code_in, channels_in, format_in, rate_in, PcmConfig, supported, request_bytes, PcmReply, goes_to, rejects, status_of, state_after, on_control, asks_map, control_answer, control_refusal, PcmEffect, pcm_control}
-use Rattle.pcm.proofs.Machine.{next_is_state}
-use Rattle.sound.specs.declared.ControlOutcome.{ControlOutcome}
-use Rattle.sound.specs.declared.ControlReply.{ControlReply}
-use Rattle.sound.specs.Meaning.{as_pcm_effect, IsReply, check_status, out_of_order, order_number}
+use Rattle.pcm.specs.Control.{code_in, channels_in, format_in, rate_in, PcmConfig, supported, PcmReply, goes_to, rejects, status_of, state_after, on_control, asks_map, control_answer, control_refusal, PcmEffect, pcm_control}
+use Rattle.sound.specs.declared.lifecycle.PcmState.{PcmState}
+use Rattle.sound.specs.declared.message.StatusError.{StatusError}
+use Rattle.sound.specs.Meaning.{state_number, pcm_reply_of}
 use Rattle.sound.specs.Checks.{header_tests, format_tests}
-
--- a check whose status is OK hit nothing
-check_ok : {r : ℕ} (o : Option PcmError) → r ≡ check_status o → r ≡ status_ok → o ≡ none
-check_ok none e h = refl
-check_ok (some bad_msg) e h = absurd (omega (arith, e, h))
-check_ok (some not_supp) e h = absurd (omega (arith, e, h))
-
--- one with another status hit that error, with which the message fails
-check_fails : {r : ℕ} (s : ℕ) (o : Option PcmError) (v : PcmReply) → ((e : PcmError) → o ≡ some e → v ≡ rejects e) → r ≡ check_status o → (r ≡ status_ok → ⊥)
-    → IsReply (record { status = r; state = s }) s v
-check_fails s none v h e n = absurd (n e)
-check_fails s (some x) v h e n = record { is_status = e ∙ ap status_of (sym (h x refl)); is_next = ap (state_after s) (sym (h x refl)) }
-
--- a request that is in order
-in_order_lem : (s k n : ℕ) → n ≡ order_number (next_state s k) → (n ≡ out_of_order → ⊥) → next_state s k ≡ some n
-in_order_lem s k n e h = go (next_state s k) refl
-  where
-    go : (o : Option ℕ) → next_state s k ≡ o → next_state s k ≡ some n
-    go none is = absurd (h (e ∙ ap order_number is))
-    go (some x) is = is ∙ ap (λ (y : ℕ). some y) (sym (e ∙ ap order_number is))
-
-out_of_order_lem : (s k n : ℕ) → n ≡ order_number (next_state s k) → n ≡ out_of_order → next_state s k ≡ none
-out_of_order_lem s k n e h = go (next_state s k) refl
-  where
-    go : (o : Option ℕ) → next_state s k ≡ o → next_state s k ≡ none
-    go none is = is
-    go (some x) is = absurd (omega (arith, leb-true x pcm_stopped (next_is_state s k x is), sym (e ∙ ap order_number is), h))
-
--- what a good header says
-module _ (m : List ℕ) {r : ℕ} (e : r ≡ check_status (first_hit (header_tests m))) (h : r ≡ status_ok) where
-  pub good_header : (pcm_header ≤ length m) × (code_in m ≤ unpause_code) × (length m ≡ request_bytes (code_in m))
-  good_header =
-      let a = no_hit _ _ _ (check_ok (first_hit (header_tests m)) e h) in
-      let b = no_hit _ _ _ a.1 in
-      let c = no_hit _ _ _ b.1 in
-      let d = no_hit _ _ _ c.1 in
-      (ltb-false _ _ a.0, ltb-false _ _ b.0, eqb-true _ _ (not-false _ d.0))
-
-  pub format_bytes : {k : ℕ} → k ≡ code_in m → k ≡ set_format_code → set_format_bytes ≤ length m
-  format_bytes code o = omega (arith, rw (sym code ∙ o) at good_header.2)
 
 module _ (config : PcmConfig) (s : ℕ) (m : List ℕ) where
   -- the tests behind the header's
@@ -80,54 +39,43 @@ module _ (config : PcmConfig) (s : ℕ) (m : List ℕ) where
       setting && not (within (channels_in m) config.channels_min config.channels_max) ⇒ bad_msg then
       setting && not (supported last_format config.formats (format_in m)) ⇒ not_supp then
       setting && not (supported last_rate config.rates (rate_in m)) ⇒ not_supp then
-      accept (goes_to (get_or (next_state s k) s))
+      accept (goes_to (unwrap_or (next_state s k) s))
 
   header_first : on_control config s m ≡ by_tests rejects (ahead (header_tests m) behind_header)
   unfolding on_control
   header_first = refl
 
-  -- what it comes to, as the code says it
-  as_reply : (v : PcmReply) → on_control config s m ≡ v → IsReply (record { status = status_of v; state = state_after s v }) s (on_control config s m)
-  as_reply v is = record { is_status = ap status_of (sym is); is_next = ap (state_after s) (sym is) }
+  -- the header fails
+  pub header_fails : (e : PcmError) → Some e ≡ first_hit (header_tests m) → rejects e ≡ on_control config s m
+  header_fails e h = sym (header_first ∙ ahead_hits rejects e (header_tests m) behind_header (sym h))
 
-  -- the header fails, or is good
-  pub header_fails : {r : ℕ} → r ≡ check_status (first_hit (header_tests m)) → (r ≡ status_ok → ⊥) → IsReply (record { status = r; state = s }) s (on_control config s m)
-  header_fails = check_fails s (first_hit (header_tests m)) (on_control config s m) (λ e h. header_first ∙ ahead_hits rejects e (header_tests m) behind_header h)
-
-  module _ {r : ℕ} (e : r ≡ check_status (first_hit (header_tests m))) (h : r ≡ status_ok) where
+  -- behind a good header
+  module _ {k : ℕ} (good : None ≡ first_hit (header_tests m)) (code : k ≡ code_in m) where
     header_good : on_control config s m ≡ by_tests rejects behind_header
-    header_good = header_first ∙ ahead_misses rejects (header_tests m) behind_header (check_ok (first_hit (header_tests m)) e h)
+    header_good = header_first ∙ ahead_misses rejects (header_tests m) behind_header (sym good)
 
-    -- behind a good header: the request is out of order, or leads to n
-    module _ {n k : ℕ} (code : k ≡ code_in m) (next : n ≡ order_number (next_state s k)) where
-      pub out_of_turn : n ≡ out_of_order → IsReply (record { status = error_status bad_msg; state = s }) s (on_control config s m)
-      out_of_turn z = as_reply (rejects bad_msg) (header_good ∙ tests_hit rejects _ bad_msg _ (rw (← code) (ap is_none (out_of_order_lem s k n next z))))
+    -- the request is out of order
+    pub out_of_turn : None ≡ next_state s k → rejects bad_msg ≡ on_control config s m
+    out_of_turn z = sym (header_good ∙ tests_hit rejects _ bad_msg _ (rw (← code, ← z)))
 
-      module _ (ne : n ≡ out_of_order → ⊥) where
-        leads : next_state s (code_in m) ≡ some n
-        leads = rw (← code) (in_order_lem s k n next ne)
+    -- or leads to n
+    module _ {n : ℕ} (leads : Some n ≡ next_state s k) where
+      -- by a request without fields of its own
+      pub plain_turn : (k ≡ set_format_code → ⊥) → goes_to n ≡ on_control config s m
+      unfolding by_tests
+      plain_turn o = sym (header_good ∙ rw (← code, ← leads, ne_eqb k set_format_code o))
 
-        -- by a request without fields of its own
-        pub plain_turn : (k ≡ set_format_code → ⊥) → IsReply (record { status = status_ok; state = n }) s (on_control config s m)
+      -- by a set format, whose fields fail or are good
+      module _ (o : k ≡ set_format_code) where
+        format_first : on_control config s m ≡ by_tests rejects (ahead (format_tests config m) (accept (goes_to n)))
         unfolding by_tests
-        plain_turn o = as_reply (goes_to n) (header_good ∙ rw (leads, ne_eqb (code_in m) set_format_code (λ e. o (code ∙ e))))
+        format_first = header_good ∙ rw (← code, ← leads, eq-eqb k set_format_code o)
 
-        -- by a set format
-        module _ (o : k ≡ set_format_code) where
-          format_first : on_control config s m ≡ by_tests rejects (ahead (format_tests config m) (accept (goes_to n)))
-          unfolding by_tests
-          format_first = header_good ∙ rw (leads, eq-eqb (code_in m) set_format_code (sym code ∙ o))
+        pub format_fails : (e : PcmError) → Some e ≡ first_hit (format_tests config m) → rejects e ≡ on_control config s m
+        format_fails e h = sym (format_first ∙ ahead_hits rejects e (format_tests config m) (accept (goes_to n)) (sym h))
 
-          module _ {f : ℕ} (checked : f ≡ check_status (first_hit (format_tests config m))) where
-            pub format_fails : (f ≡ status_ok → ⊥) → IsReply (record { status = f; state = s }) s (on_control config s m)
-            format_fails = check_fails s (first_hit (format_tests config m)) (on_control config s m) (λ e h. format_first ∙ ahead_hits rejects e (format_tests config m) (accept (goes_to n)) h) checked
-
-            pub format_turn : f ≡ status_ok → IsReply (record { status = status_ok; state = n }) s (on_control config s m)
-            format_turn z =
-                as_reply (goes_to n)
-                (format_first
-                ∙ ahead_misses rejects (format_tests config m) (accept (goes_to n)) (check_ok (first_hit (format_tests config m)) checked z)
-                ∙ tests_accept rejects (goes_to n))
+        pub format_turn : None ≡ first_hit (format_tests config m) → goes_to n ≡ on_control config s m
+        format_turn h = sym (format_first ∙ ahead_misses rejects (format_tests config m) (accept (goes_to n)) (sym h) ∙ tests_accept rejects (goes_to n))
 
 -- The answer: the status alone, and behind it the zeros where the channel map was asked for
 
@@ -152,58 +100,21 @@ module _ {d d₁ : List ℕ} (m : List ℕ) (status : ℕ) where
             ∙ rw e (sets_next d 0 status_bytes (little_endian status_bytes status) (zeros chmap_bytes) (length_little_endian status_bytes status)));
       })
 
-answer_length : (m : List ℕ) (status : ℕ) → length (control_answer m status) ≤ control_room
-unfolding control_answer
-answer_length m status =
-    decide (asks_map m)
-    (λ h. rw h (rw (length-append, length_little_endian status_bytes status, zero_length chmap_bytes) (omega arith)))
-    (λ h. rw h (rw (length-append, length_little_endian status_bytes status) (omega arith)))
-
 -- The whole effect
 
--- refused with k
-module _ (config : PcmConfig) (s : ℕ) (m room : List ℕ) (r : ControlOutcome) where
-  abbrev RefusedWith : ℕ → Type 0
-  RefusedWith k = (r.refusal ≡ k) × (r.state ≡ s) × (r.written ≡ 0) → as_pcm_effect r room ≡ pcm_control config s m room
+-- carried out: the reply's status is written, and its state is left
+state_left : (s : PcmState) (r : Result PcmState StatusError) → state_number (result_unwrap_or r s) ≡ state_after (state_number s) (pcm_reply_of r)
+state_left s (Ok n) = refl
+state_left s (Err e) = refl
 
-  turned_down : (k : ℕ) → control_refusal (length room) s ≡ k → (k ≡ 0 → ⊥) → RefusedWith k
-  unfolding pcm_control
-  turned_down k e n told = rw (told.0, told.1, told.2, e, ne_eqb k 0 n) refl
-
-  pub short_room : length room < control_room → RefusedWith 3
-  unfolding control_refusal
-  short_room short = turned_down 3 (rw (lt-ltb (length room) control_room short)) (λ e. omega (arith, e))
-
-  pub no_state : control_room ≤ length room → pcm_stopped < s → RefusedWith 2
-  unfolding control_refusal
-  no_state enough unknown = turned_down 2 (rw (le-ltb (length room) control_room enough, lt-leb s pcm_stopped unknown)) (λ e. omega (arith, e))
-
--- carried out
-module _ (config : PcmConfig) (s : ℕ) (m room : List ℕ) (enough : control_room ≤ length room) (known : s ≤ pcm_stopped) where
-  bytes : List ℕ
-  bytes = control_answer m (status_of (on_control config s m))
-
-  answer_small : length bytes ≤ control_room
-  unfolding bytes
-  answer_small = answer_length m (status_of (on_control config s m))
-
-  runs : pcm_control config s m room ≡ record { refusal = 0; state = state_after s (on_control config s m); written = length bytes; room = bytes ++ drop (length bytes) room }
-  unfolding pcm_control control_refusal bytes
-  runs = rw (le-ltb (length room) control_room enough, le-leb s pcm_stopped known) refl
-
-  module _ {r : ControlReply} {room' : List ℕ} {written : ℕ} (is_reply : IsReply r s (on_control config s m)) (wrote : Wrote room room' 0 written (control_answer m r.status)) where
-    wrote_bytes : Wrote room room' 0 written bytes
-    unfolding bytes
-    wrote_bytes = rw is_reply.is_status at wrote
-
-    written_is : written ≡ length bytes
-    written_is = wrote_bytes.next ∙ zero-add (length bytes)
-
-    pub few : written ≤ control_room
-    few = omega (arith, written_is, answer_small)
-
-    stored : room' ≡ bytes ++ drop (length bytes) room
-    stored = wrote_bytes.whole ∙ sets-eq bytes room 0 (rw zero-add (omega (arith, enough, answer_small))) ∙ rw zero-add refl
-
-    pub carried_out_lem : ◌≡◌ {A = PcmEffect} (record { refusal = 0; state = r.state; written = written; room = room' }) (pcm_control config s m room)
-    carried_out_lem = (λ i. record { refusal = 0; state = is_reply.is_next i; written = written_is i; room = stored i }) ∙ sym runs
+module _ (config : PcmConfig) (s : PcmState) (r : Result PcmState StatusError) (m : List ℕ) {room room' : List ℕ} {number next written status : ℕ} where
+  pub carried_out_lem : control_room ≤ length room → (state_number s ≡ number) × (number ≤ pcm_stopped) → pcm_reply_of r ≡ on_control config (state_number s) m → status ≡ status_of (pcm_reply_of r)
+      → Wrote room room' 0 written (control_answer m status) → written ≤ control_room → next ≡ state_number (result_unwrap_or r s)
+      → ◌≡◌ {A = PcmEffect} (record { refusal = 0; state = next; written = written; room = room' }) (pcm_control config number m room)
+  unfolding pcm_control control_refusal
+  carried_out_lem enough known reply told wrote few left =
+      let bytes = control_answer m status in
+      let written_is : written ≡ length bytes = wrote.next ∙ zero-add (length bytes) in
+      let stored : room' ≡ bytes ++ drop (length bytes) room = wrote.whole ∙ sets-eq bytes room 0 (rw zero-add (omega (arith, enough, few, written_is))) ∙ rw zero-add refl in
+      (λ i. record { refusal = 0; state = (left ∙ state_left s r) i; written = written_is i; room = stored i })
+      ∙ rw (told, reply, known.0, le-ltb (length room) control_room enough, le-leb number pcm_stopped known.1) refl

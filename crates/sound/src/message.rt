@@ -1,26 +1,32 @@
 // The tests of a message's bytes.
-ghost use Rattle.std.specs.Prelude.{◌≡◌, ◌≤◌, length};
+ghost use Rattle.std.specs.Prelude.{◌≡◌, ◌≤◌, length, IfOk};
 ghost use Rattle.laws.specs.InOrder.{first_hit};
 ghost use Rattle.pcm.specs.Numbers.{set_format_bytes};
-ghost use Rattle.pcm.specs.Control.{request_bytes, has_bit, supported};
-ghost use Rattle.sound.specs.Meaning.{config_of, check_status};
+ghost use Rattle.pcm.specs.Control.{code_in, request_bytes, has_bit, supported, asks_map};
+ghost use Rattle.sound.specs.Meaning.{pcm_config_of, request_code, error_in};
 ghost use Rattle.sound.specs.Checks.{header_tests, stream_tests, format_tests};
 
-// Request codes: the channel map, which is not supported, the one with fields of its own, and the last.
-pub const CHMAP_INFO: u32 = 0;
+use crate::lifecycle::PcmRequest;
 
-pub const SET_FORMAT: u32 = 1;
+// The configured numbers of the output stream.
+#[derive(Clone, Copy, Debug, PartialEq, Eq)]
+pub struct StreamConfig {
+    pub channels_min: u8,
+    pub channels_max: u8,
+    pub formats: u16,
+    pub rates: u16,
+}
 
-const UNPAUSE: u32 = 6;
+// Why a message fails, with the status that it gets.
+#[derive(Clone, Copy, Debug, PartialEq, Eq)]
+pub enum StatusError {
+    BadMessage = 0x8001,
+    NotSupported = 0x8002,
+}
 
-// The statuses.
-pub const STATUS_OK: u32 = 0x8000;
+// The stream types.
+const OUTPUT_STREAM: u32 = 0;
 
-pub const BAD_MSG: u32 = 0x8001;
-
-const NOT_SUPP: u32 = 0x8002;
-
-// The stream type of input, which is the last.
 const INPUT_STREAM: u32 = 1;
 
 // The last sample format and the last frame rate.
@@ -29,12 +35,12 @@ const LAST_FORMAT: u16 = 7;
 const LAST_RATE: u16 = 13;
 
 // Lengths of requests: of a header, and with a format.
-pub const PCM_HEADER: usize = 8;
+const PCM_HEADER: usize = 8;
 
 const SET_FORMAT_BYTES: usize = 16;
 
 // The offsets of the fields.
-pub const CODE_AT: usize = 0;
+const CODE_AT: usize = 0;
 
 const STREAM_AT: usize = 4;
 
@@ -44,95 +50,91 @@ const FORMAT_AT: usize = 10;
 
 const RATE_AT: usize = 12;
 
-// The status by a message's length, code and stream; OK where they are good.
-pub fn header_status(message: &[u8]) -> u32
-    ensures { result ≡ check_status (first_hit (header_tests message.now)) }
+// The request of a message whose length, code and stream are good.
+#[tactic(auto, unfolding(laws::specs::InOrder::first_hit))]
+pub fn request_in(message: &[u8]) -> Result<PcmRequest, StatusError>
+    ensures fails { error_in result ≡ first_hit (header_tests message.now) }
+    ensures code { IfOk result (λ r. request_code r ≡ code_in message.now) }
+    ensures long { IfOk result (λ r. length message.now ≡ request_bytes (request_code r)) }
 {
     if message.len() < PCM_HEADER {
-        return BAD_MSG;
+        return Err(StatusError::BadMessage);
     }
-    let code = field::read_u32(message, CODE_AT);
-    if UNPAUSE < code {
-        return BAD_MSG;
+    let request = PcmRequest::try_from(field::read::<u32>(message, CODE_AT))?;
+    if request == PcmRequest::ChannelMap {
+        return Err(StatusError::NotSupported);
     }
-    if code == CHMAP_INFO {
-        return NOT_SUPP;
+    if message.len() != request_bytes(request) {
+        return Err(StatusError::BadMessage);
     }
-    if message.len() != request_bytes(code) {
-        return BAD_MSG;
-    }
-    stream_status(field::read_u32(message, STREAM_AT))
+    check_stream(field::read::<u32>(message, STREAM_AT))?;
+    Ok(request)
 }
 
-// The status by a stream type: only output is served.
-fn stream_status(stream: u32) -> u32
-    ensures { result ≡ check_status (first_hit (stream_tests stream)) }
+// The stream type: only output is served.
+#[tactic(auto, unfolding(laws::specs::InOrder::first_hit))]
+fn check_stream(stream: u32) -> Result<(), StatusError>
+    ensures { error_in result ≡ first_hit (stream_tests stream) }
 {
-    if INPUT_STREAM < stream {
-        return BAD_MSG;
+    match stream {
+        OUTPUT_STREAM => Ok(()),
+        INPUT_STREAM => Err(StatusError::NotSupported),
+        _ => Err(StatusError::BadMessage),
     }
-    if stream == INPUT_STREAM {
-        return NOT_SUPP;
-    }
-    STATUS_OK
 }
 
 // How long a request must be.
-fn request_bytes(code: u32) -> usize
-    ensures { result ≡ request_bytes code }
+fn request_bytes(request: PcmRequest) -> usize
+    ensures { result ≡ request_bytes (request_code request) }
 {
-    if code == SET_FORMAT {
-        return SET_FORMAT_BYTES;
+    match request {
+        PcmRequest::SetFormat => SET_FORMAT_BYTES,
+        _ => PCM_HEADER,
     }
-    PCM_HEADER
 }
 
-// The status by the channels, the format and the rate in a message, and the configured ones; OK where they are good.
-pub fn format_status(
-    channels_min: u8,
-    channels_max: u8,
-    formats: u16,
-    rates: u16,
-    message: &[u8],
-) -> u32
+// The channels, the format and the rate in a message: they are the configured ones.
+#[tactic(auto, unfolding(laws::specs::InOrder::first_hit, laws::specs::Tests::within))]
+pub fn check_format(config: StreamConfig, message: &[u8]) -> Result<(), StatusError>
     requires { set_format_bytes ≤ length message.now }
-    ensures { result ≡ check_status (first_hit (format_tests (config_of channels_min channels_max formats rates) message.now)) }
+    ensures { error_in result ≡ first_hit (format_tests (pcm_config_of config) message.now) }
 {
-    let channels = field::read_u16(message, CHANNELS_AT);
-    if channels < channels_min as u16 {
-        return BAD_MSG;
+    let channels = field::read::<u16>(message, CHANNELS_AT);
+    let format = field::read::<u16>(message, FORMAT_AT);
+    let rate = field::read::<u16>(message, RATE_AT);
+    let taken = u16::from(config.channels_min)..=u16::from(config.channels_max);
+    if !taken.contains(&channels) {
+        return Err(StatusError::BadMessage);
     }
-    if (channels_max as u16) < channels {
-        return BAD_MSG;
+    if !is_supported(LAST_FORMAT, config.formats, format) {
+        return Err(StatusError::NotSupported);
     }
-    if !is_supported(LAST_FORMAT, formats, field::read_u16(message, FORMAT_AT)) {
-        return NOT_SUPP;
+    if !is_supported(LAST_RATE, config.rates, rate) {
+        return Err(StatusError::NotSupported);
     }
-    if !is_supported(LAST_RATE, rates, field::read_u16(message, RATE_AT)) {
-        return NOT_SUPP;
-    }
-    STATUS_OK
+    Ok(())
 }
 
 // Whether a format or a rate is defined, up to the last, and configured.
+#[tactic(auto, unfolding(pcm::specs::Control::supported))]
 fn is_supported(last: u16, bits: u16, n: u16) -> bool
     ensures { result ≡ supported last bits n }
 {
-    if last < n {
-        return false;
-    }
-    has_bit(bits, n)
+    n <= last && has_bit(bits, n)
 }
 
-// Whether a bit map has the bit n.
+// Whether a bit map of 16 bits has the bit n.
+#[tactic(auto, unfolding(pcm::specs::Control::has_bit))]
 fn has_bit(bits: u16, n: u16) -> bool
     ensures { result ≡ has_bit bits n }
 {
-    let mut rest = bits;
-    let mut i: u16 = 0;
-    while i < n {
-        rest = rest / 2;
-        i += 1;
-    }
-    rest % 2 == 1
+    n < 16 && (bits >> n) & 1 == 1
+}
+
+// Whether a whole header asks for the channel map.
+pub fn asks_map(message: &[u8]) -> bool
+    ensures { result ≡ asks_map message.now }
+{
+    message.len() >= PCM_HEADER
+        && field::read::<u32>(message, CODE_AT) == PcmRequest::ChannelMap as u32
 }

@@ -1,7 +1,7 @@
 -- The steps of a command to a live stream: its queues' words in the block, and the replies that its answers and its changes amount to.
 use mathlib.Core.Path.{◌≡◌, refl}
 use mathlib.Core.Bool.{true, false, ◌&&◌}
-use mathlib.Core.Option.{Option, some}
+use Rattle.std.specs.Prelude.{Option}
 use mathlib.Core.List.{List, [], ◌∷◌}
 use Prim.Native.Nat.{ℕ, ◌+◌, ◌-◌, ◌≤◌, ◌%◌}
 use lib.ListN.{length}
@@ -13,8 +13,8 @@ use Rattle.laws.specs.Stores.{Wrote}
 use Rattle.laws.proofs.Tests.{and_left, within_bounds}
 use Rattle.laws.proofs.Stores.{wrote_none}
 use Rattle.model.specs.Device.{QueueType, Queue, Stream, occupied, queue_of, with_queue, place}
-use Rattle.model.specs.Answers.{ErrorCode, code, Response, success, failure, Answer, response_type, payload, bytes_of}
-use Rattle.model.specs.Replies.{Reply, reply}
+use Rattle.model.specs.Answers.{Response, success, Answer, response_type, payload, bytes_of}
+use Rattle.model.specs.Replies.{Reply, reply, Request, fail}
 use Rattle.model.specs.Commands.{bad_extent}
 use Rattle.model.proofs.Slots.{Distinct}
 use Rattle.model.proofs.WellFormed.{GoodQueue, stream_is, good_queue_of}
@@ -24,7 +24,9 @@ use Rattle.table.specs.Search.{has_all_slots}
 use Rattle.table.proofs.Records.{queue_sized, queue_read_lem, queue_lent}
 use Rattle.answer.specs.Answer.{answer_to, plain_bytes}
 use Rattle.answer.proofs.Laws.{wrote_plain}
-use Rattle.stream.specs.Replied.{BlockOf, Replied}
+use Rattle.protocol.specs.declared.codes.ErrorCode.{ErrorCode}
+use Rattle.protocol.specs.Codes.{error_meant}
+use Rattle.stream.specs.Replied.{BlockOf, Replied, Failed}
 
 -- A block that holds the live stream n with the record b
 
@@ -77,10 +79,9 @@ module _ {n : ℕ} {v : Reply} {block room room' : List ℕ} {written : ℕ} whe
       → Replied n v block room room' written
   succeeded t next e w x = answered_plain t success next refl e w x
 
-  -- an error, and a block that stays
-  pub failed : {b : Stream} (t : ℕ) (e : ErrorCode) → BlockOf n block b → v ≡ reply (answer_to t n (failure e) ∷ []) (some b) → Wrote room room' 0 written (plain_bytes t (code e) n)
-      → Replied n v block room room' written
-  failed {b} t e h is x = answered_plain t (failure e) (some b) refl is h.held x
+-- an error that is not written yet
+pub failed : {c : Request} {v : Reply} {block room : List ℕ} (e : ErrorCode) → v ≡ fail c (error_meant e) → Failed c v block block room room e
+failed e is = record { error = is; block_stays = refl; room_stays = refl }
 
 -- no answer, and a block that holds the next record
 pub silent : {n : ℕ} {v : Reply} {block : List ℕ} (room : List ℕ) (next : Option Stream) → v ≡ reply [] next → block ≡ place_words (place n next) → Replied n v block room room 0

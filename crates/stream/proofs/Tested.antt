@@ -1,12 +1,13 @@
 -- What the tests of each command give, by what the code found.
 use mathlib.Core.Path.{◌≡◌, refl, sym, ap, ◌∙◌}
 use mathlib.Core.Bool.{true, false, not}
-use mathlib.Core.Option.{none, some}
+use Rattle.std.specs.Prelude.{None, Some, is_some}
 use mathlib.Core.List.{List, [], ◌∷◌}
 use Prim.Native.Nat.{ℕ}
 use lib.ListN.{set}
 use Rattle.laws.specs.Lists.{is_empty, is_none}
 use Rattle.laws.specs.InOrder.{accept, ◌⇒◌then◌, by_tests}
+use Rattle.laws.proofs.Lists.{some_none}
 use Rattle.laws.proofs.InOrder.{tests_accept, tests_hit, tests_miss}
 use Rattle.model.specs.Device.{QueueType, created, queued, Slot, resource, Stream, queue_of, with_queue, with_drain, with_slots, queued_in, buffer_of, present, no_slot, add_resource, set_state, free_all}
 use Rattle.model.specs.Frames.{resource_id, timestamp_sent, frame_width, frame_height, frame_rate}
@@ -22,13 +23,13 @@ use Rattle.stream.specs.Queueing.{Placed}
 
 module _ (c : Request) (b : Stream) where
   -- 0x0103
-  pub drain_again : {t : ℕ} → some t ≡ b.draining → on_drain c b ≡ fail c invalid_operation
+  pub drain_again : is_some b.draining ≡ true → on_drain c b ≡ fail c invalid_operation
   unfolding on_drain by_tests
-  drain_again e = rw (sym e)
+  drain_again e = rw (sym (some_none b.draining) ∙ e)
 
-  pub drain_new : none ≡ b.draining → on_drain c b ≡ reply [] (some (with_drain (some c.ticket) b))
+  pub drain_new : is_some b.draining ≡ false → on_drain c b ≡ reply [] (Some (with_drain (Some c.ticket) b))
   unfolding on_drain by_tests
-  drain_new e = rw (sym e)
+  drain_new e = rw (sym (some_none b.draining) ∙ e)
 
   module _ (q : QueueType) where
     -- 0x0104, behind a good frame with the resource r
@@ -40,22 +41,22 @@ module _ (c : Request) (b : Stream) where
 
       -- with a number that is not there
       module _ (e : false ≡ present r (queue_of q b).slots) where
-        behind : on_create_resource c b q ≡ by_tests (fail c) (no_slot (queue_of q b).slots ⇒ out_of_memory then accept (reply (own c success ∷ []) (some (with_queue q (with_slots (add_resource (resource_id c.frame) (queue_of q b).slots) (queue_of q b)) b))))
+        behind : on_create_resource c b q ≡ by_tests (fail c) (no_slot (queue_of q b).slots ⇒ out_of_memory then accept (reply (own c success ∷ []) (Some (with_queue q (with_slots (add_resource (resource_id c.frame) (queue_of q b).slots) (queue_of q b)) b))))
         behind =
             let s = (queue_of q b).slots in
             resource_good_lem c b q g ∙ tests_miss (fail c) (present (resource_id c.frame) s) invalid_resource _ (sym (e ∙ ap (λ (n : ℕ). present n s) is))
 
-        pub creating_full : none ≡ find_free (queue_of q b).slots → on_create_resource c b q ≡ fail c out_of_memory
+        pub creating_full : None ≡ find_free (queue_of q b).slots → on_create_resource c b q ≡ fail c out_of_memory
         creating_full f = behind ∙ tests_hit (fail c) (no_slot (queue_of q b).slots) out_of_memory _ (free_none (queue_of q b).slots (sym f))
 
-        pub creating_new : (k : ℕ) → some k ≡ find_free (queue_of q b).slots
-            → on_create_resource c b q ≡ reply (own c success ∷ []) (some (with_queue q (with_slots (set (queue_of q b).slots k (resource r created)) (queue_of q b)) b))
+        pub creating_new : (k : ℕ) → Some k ≡ find_free (queue_of q b).slots
+            → on_create_resource c b q ≡ reply (own c success ∷ []) (Some (with_queue q (with_slots (set (queue_of q b).slots k (resource r created)) (queue_of q b)) b))
         creating_new k f =
             let s = (queue_of q b).slots in
             behind
             ∙ tests_miss (fail c) (no_slot s) out_of_memory _ (free_room k s (sym f))
             ∙ tests_accept (fail c) _
-            ∙ ap (λ (l : List Slot). reply (own c success ∷ []) (some (with_queue q (with_slots l (queue_of q b)) b)))
+            ∙ ap (λ (l : List Slot). reply (own c success ∷ []) (Some (with_queue q (with_slots l (queue_of q b)) b)))
             (ap (λ (n : ℕ). add_resource n s) (sym is) ∙ free_add r k s (sym f))
 
     -- 0x0105, behind a good frame
@@ -63,7 +64,7 @@ module _ (c : Request) (b : Stream) where
       pub queueing_draining : true ≡ input_draining q b → on_queue c b q ≡ fail c invalid_operation
       queueing_draining e = queue_good c b q g ∙ tests_hit (fail c) (input_draining q b) invalid_operation _ (sym e)
 
-      pub queueing_absent : false ≡ input_draining q b → none ≡ find_resource (resource_id c.frame) (queue_of q b).slots → on_queue c b q ≡ fail c invalid_resource
+      pub queueing_absent : false ≡ input_draining q b → None ≡ find_resource (resource_id c.frame) (queue_of q b).slots → on_queue c b q ≡ fail c invalid_resource
       queueing_absent e f =
           let s = (queue_of q b).slots in
           queue_good c b q g
@@ -76,7 +77,7 @@ module _ (c : Request) (b : Stream) where
     freeing_busy e = rw (sym e)
 
     pub freeing_idle : false ≡ not (is_empty (queued_in (queue_of q b).slots))
-        → on_destroy_all c b q ≡ reply (own c success ∷ []) (some (with_queue q (with_slots (free_all (queue_of q b).slots) (queue_of q b)) b))
+        → on_destroy_all c b q ≡ reply (own c success ∷ []) (Some (with_queue q (with_slots (free_all (queue_of q b).slots) (queue_of q b)) b))
     unfolding on_destroy_all by_tests
     freeing_idle e = rw (sym e)
 
@@ -91,13 +92,13 @@ module _ (c : Request) (b : Stream) where
       setting_busy e = set_good_lem c b q g ∙ tests_hit (fail c) (not (is_empty (queued_in (queue_of q b).slots))) invalid_operation _ (sym e)
 
       pub setting_idle : false ≡ not (is_empty (queued_in (queue_of q b).slots))
-          → on_set c b q ≡ reply (own c success ∷ []) (some (with_queue q (with_parameters (frame_width c.frame) (frame_height c.frame) (frame_rate c.frame) (queue_of q b)) b))
+          → on_set c b q ≡ reply (own c success ∷ []) (Some (with_queue q (with_parameters (frame_width c.frame) (frame_height c.frame) (frame_rate c.frame) (queue_of q b)) b))
       setting_idle e = set_good_lem c b q g ∙ tests_miss (fail c) (not (is_empty (queued_in (queue_of q b).slots))) invalid_operation _ (sym e) ∙ tests_accept (fail c) _
 
   -- 0x0105 on the slot k
   module _ (q : QueueType) (k : ℕ) (p : Placed c.frame b q k) (d : Distinct (queue_of q b).slots) where
     last : on_queue c b q ≡ by_tests (fail c) (not (is_none (buffer_of (resource_id c.frame) (queued_in (queue_of q b).slots))) ⇒ invalid_operation then
-        accept (reply [] (some (with_queue q (with_slots (set_state (resource_id c.frame) (queued c.ticket (timestamp_sent c.frame)) (queue_of q b).slots) (queue_of q b)) b))))
+        accept (reply [] (Some (with_queue q (with_slots (set_state (resource_id c.frame) (queued c.ticket (timestamp_sent c.frame)) (queue_of q b).slots) (queue_of q b)) b))))
     last =
         let s = (queue_of q b).slots in
         let r = resource_id c.frame in
@@ -112,14 +113,14 @@ module _ (c : Request) (b : Stream) where
         last ∙ tests_hit (fail c) (not (is_none (buffer_of r (queued_in s)))) invalid_operation _ (ap not (find_queued r k s p.found d ∙ ap not (sym e)))
 
     pub queueing_new : false ≡ is_queued (slot_at k (queue_of q b).slots) → (ts : ℕ) → ts ≡ timestamp_sent c.frame
-        → on_queue c b q ≡ reply [] (some (with_queue q (with_slots (set (queue_of q b).slots k (resource (number_in (slot_at k (queue_of q b).slots)) (queued c.ticket ts))) (queue_of q b)) b))
+        → on_queue c b q ≡ reply [] (Some (with_queue q (with_slots (set (queue_of q b).slots k (resource (number_in (slot_at k (queue_of q b).slots)) (queued c.ticket ts))) (queue_of q b)) b))
     queueing_new e ts is =
         let s = (queue_of q b).slots in
         let r = resource_id c.frame in
         last
         ∙ tests_miss (fail c) (not (is_none (buffer_of r (queued_in s)))) invalid_operation _ (ap not (find_queued r k s p.found d ∙ ap not (sym e)))
         ∙ tests_accept (fail c) _
-        ∙ ap (λ (l : List Slot). reply [] (some (with_queue q (with_slots l (queue_of q b)) b)))
+        ∙ ap (λ (l : List Slot). reply [] (Some (with_queue q (with_slots l (queue_of q b)) b)))
         (find_set r k s p.found d (queued c.ticket (timestamp_sent c.frame))
         ∙ ap (λ (n : ℕ). set s k (resource n (queued c.ticket (timestamp_sent c.frame)))) (sym (find_number r k s p.found))
         ∙ ap (λ (x : ℕ). set s k (resource (number_in (slot_at k s)) (queued c.ticket x))) (sym is))

@@ -23,7 +23,7 @@ bits_length (suc k) w = ap suc (bits_length k (w / 2))
 module _ (w : ℕ) where
   bit_low : (x : Bool) → eqb ((cond x 1 0 + 2 * w) % 2) 1 ≡ x
   bit_low true = let one : (1 + 2 * w) % 2 ≡ 1 = omega arith in rw one
-  bit_low false = let none : (0 + 2 * w) % 2 ≡ 0 = omega arith in rw none
+  bit_low false = let None : (0 + 2 * w) % 2 ≡ 0 = omega arith in rw None
 
   bit_rest : (x : Bool) → (cond x 1 0 + 2 * w) / 2 ≡ w
   bit_rest true = omega arith
@@ -62,7 +62,7 @@ word_bits (x ∷ l) = ap₂ (λ (y : Bool) (m : List Bool). y ∷ m) (bit_low (b
 
 pub bits_word_lem : (k w : ℕ) → w < 2 ^ k → bits_word (bits_of k w) ≡ w
 unfolding bits_of bits_word
-bits_word_lem zero w h = let none : w < 1 = rw (pow-zero 2) at h in omega (arith, none)
+bits_word_lem zero w h = let None : w < 1 = rw (pow-zero 2) at h in omega (arith, None)
 bits_word_lem (suc k) w h =
     let next : w / 2 < 2 ^ k = omega (arith, pow-suc 2 k, h) in
     ap (λ (y : ℕ). cond (eqb (w % 2) 1) 1 0 + 2 * y) (bits_word_lem k (w / 2) next) ∙ parts (w % 2) refl

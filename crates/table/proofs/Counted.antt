@@ -1,6 +1,6 @@
 -- Laws of the figures: how large they can be, what the questions give on the words of a device, and that they look at no other words than those they read.
 use Rattle.std.proofs.Common.{◌≡◌, ℕ, suc, ◌+◌, ◌-◌, ◌*◌, ◌%◌, ◌^◌, ◌<◌, ◌≤◌, Bool, true, false, eqb, List, [], ◌∷◌, ◌++◌, map, length, get_or, take, drop, set, sym, refl, ap, ◌∙◌, append_assoc, arith, length-append, length-drop, length-set, length-take-le, get_or-drop, take_all, get_or-take, ext_get_or, drop_at, le-ltb, lt-ltb, eq-eqb, ne_eqb, eqb-true}
-use mathlib.Core.Option.{Option, none, some}
+use Rattle.std.specs.Prelude.{Option, None, Some}
 use lib.ListN.{length-map, get_or-append, get_or-map}
 use lib.Seq.{get_or_at, set-append_left}
 use borrow.Author.Tests.{eqb-false}
@@ -42,8 +42,8 @@ pending_most (occupied n b) h =
     )
   where
     one : (d : Option ℕ) → length (to_list d) ≤ 1
-    one none = omega arith
-    one (some t) = omega arith
+    one None = omega arith
+    one (Some t) = omega arith
 
 pub all_most : (ps : List Place) → all_of has_all_slots ps ≡ true → pending_among ps ≤ 33 * length ps
 all_most [] h = omega arith
@@ -111,13 +111,13 @@ unfolding asked_of_stream
 asked_found t n o e h = ap (λ (x : Option ℕ). figure_read t (figure_found t x) (words_read x)) e ∙ asked_long t (figure_found t o) (words_read o) h
 
 -- a mark for each place up to the one that was found, and its figure
-pub reads_found : (k : ℕ) → length (words_read (some k)) ≡ k + 2
+pub reads_found : (k : ℕ) → length (words_read (Some k)) ≡ k + 2
 reads_found k =
     let marks = map (λ i. marks_at + i) (numbers_below (suc k)) in
     omega (arith, length-append marks ((place_figures_at + k) ∷ []), length-map (numbers_below (suc k)) (λ i. marks_at + i), below_length (suc k))
 
-pub asked_at : (t : List ℕ) (n k : ℕ) → marked_place t n ≡ some k → table_words ≤ length t → asked_of_stream t n ≡ record { refusal = 0; pending = get_or t (place_figures_at + k) 0; reads = k + 2 }
-asked_at t n k e h = asked_found t n (some k) e h ∙ (λ i. record { refusal = 0; pending = get_or t (place_figures_at + k) 0; reads = reads_found k i })
+pub asked_at : (t : List ℕ) (n k : ℕ) → marked_place t n ≡ Some k → table_words ≤ length t → asked_of_stream t n ≡ record { refusal = 0; pending = get_or t (place_figures_at + k) 0; reads = k + 2 }
+asked_at t n k e h = asked_found t n (Some k) e h ∙ (λ i. record { refusal = 0; pending = get_or t (place_figures_at + k) 0; reads = reads_found k i })
 
 -- 0 is nobody's mark
 pub no_mark_lem : (w n : ℕ) → w ≡ 0 → eqb w (suc n) ≡ false
@@ -141,7 +141,7 @@ module _ (t : List ℕ) where
   marks_size h = length-take-le stream_places (drop marks_at t) (omega (arith, length-drop marks_at t))
 
   -- the place of a number is one of the eight
-  pub marked_below : (n k : ℕ) → table_words ≤ length t → marked_place t n ≡ some k → k < stream_places
+  pub marked_below : (n k : ℕ) → table_words ≤ length t → marked_place t n ≡ Some k → k < stream_places
   unfolding marked_place
   marked_below n k h e = position_below (λ w. eqb w (suc n)) 0 (part marks_at stream_places t) stream_places (marks_size h) k e
 
@@ -212,8 +212,8 @@ module _ (d : Device) (rest : List ℕ) (sized : all_of has_all_slots d.places �
 
   -- and its figure is what its record gives
   found_figure : (n : ℕ) (o : Option ℕ) → find_stream n d.places ≡ o → figure_found words o ≡ pending_of (record_of n d.places)
-  found_figure n none e = ap pending_of (sym (stream_missing n d.places e))
-  found_figure n (some k) e =
+  found_figure n None e = ap pending_of (sym (stream_missing n d.places e))
+  found_figure n (Some k) e =
       let at = stream_found n d.places k e in
       figure_there k (omega (arith, at.inside)) ∙ ap pending_at at.at ∙ ap pending_of (sym at.known)
 
@@ -241,18 +241,18 @@ module _ (t u : List ℕ) (long : table_words ≤ length t) (long' : table_words
 
   same_place : (n : ℕ) (o : Option ℕ) → marked_place t n ≡ o → AgreeOn t u (words_read o) → marked_place u n ≡ o
   unfolding marked_place
-  same_place n none e agree =
+  same_place n None e agree =
       ap (position (λ w. eqb w (suc n)))
       (sym (ext_get_or 0 (part marks_at stream_places t) (part marks_at stream_places u) as_many (λ i h. marks_agree stream_places [] (omega arith) agree i (omega (arith, h, marks_size t long)))))
       ∙ e
-  same_place n (some k) e agree =
+  same_place n (Some k) e agree =
       let below = marked_below t n k long e in
       position_agrees (λ w. eqb w (suc n)) 0 (part marks_at stream_places t) (part marks_at stream_places u) k as_many e
       (λ i h. marks_agree (suc k) ((place_figures_at + k) ∷ []) (omega arith) agree i (omega arith))
 
   same_figure : (o : Option ℕ) → AgreeOn t u (words_read o) → figure_found t o ≡ figure_found u o
-  same_figure none agree = refl
-  same_figure (some k) agree = (each_behind agree_at (map (λ i. marks_at + i) (numbers_below (suc k))) ((place_figures_at + k) ∷ []) agree).0
+  same_figure None agree = refl
+  same_figure (Some k) agree = (each_behind agree_at (map (λ i. marks_at + i) (numbers_below (suc k))) ((place_figures_at + k) ∷ []) agree).0
 
   pub same_answer : (n : ℕ) → AgreeOn t u (words_read (marked_place t n)) → asked_of_stream t n ≡ asked_of_stream u n
   same_answer n agree =

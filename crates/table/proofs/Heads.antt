@@ -1,6 +1,6 @@
 -- What the first words of a block say, and a block with other words there.
 use Rattle.std.proofs.Common.{◌≡◌, ℕ, List, ◌∷◌, ◌++◌, length, get_or, set, sym, refl, ap, ◌∙◌, ap₂, append_assoc, arith, length-append}
-use mathlib.Core.Option.{Option, none, some}
+use Rattle.std.specs.Prelude.{Option, None, Some}
 use borrow.Author.Tests.{eqb-false}
 use Rattle.laws.specs.Parts.{part, with_part, zeros, pieces}
 use Rattle.laws.proofs.Parts.{zero_length, zero_at, zeros_append, part_mid, with_part_mid}
@@ -42,32 +42,32 @@ unfolding place_words head_words
 format_word l n b e = ap (λ (x : List ℕ). get_or x 2 0) e
 
 -- the words from 3 on
-no_drain_words : (d : Option ℕ) (z r : List ℕ) → get_or (drain_words d ++ z ++ r) 0 0 ≡ 0 → none ≡ d
-no_drain_words none z r e = refl
-no_drain_words (some t) z r e = absurd (eqb-false 1 0 refl e)
+no_drain_words : (d : Option ℕ) (z r : List ℕ) → get_or (drain_words d ++ z ++ r) 0 0 ≡ 0 → None ≡ d
+no_drain_words None z r e = refl
+no_drain_words (Some t) z r e = absurd (eqb-false 1 0 refl e)
 
-drain_words_lem : (d : Option ℕ) (z r : List ℕ) → (get_or (drain_words d ++ z ++ r) 0 0 ≡ 0 → ⊥) → some (get_or (drain_words d ++ z ++ r) 1 0) ≡ d
-drain_words_lem none z r e = absurd (e refl)
-drain_words_lem (some t) z r e = refl
+drain_words_lem : (d : Option ℕ) (z r : List ℕ) → (get_or (drain_words d ++ z ++ r) 0 0 ≡ 0 → ⊥) → Some (get_or (drain_words d ++ z ++ r) 1 0) ≡ d
+drain_words_lem None z r e = absurd (e refl)
+drain_words_lem (Some t) z r e = refl
 
 put_drain : (d : Option ℕ) (z r : List ℕ) (x y : ℕ) → set (set (drain_words d ++ z ++ r) 0 x) 1 y ≡ x ∷ y ∷ (z ++ r)
-put_drain none z r x y = refl
-put_drain (some t) z r x y = refl
+put_drain None z r x y = refl
+put_drain (Some t) z r x y = refl
 
 module _ (l : List ℕ) (n : ℕ) (b : Stream) (e : l ≡ place_words (occupied n b)) where
-  pub drain_absent : get_or l 3 0 ≡ 0 → none ≡ b.draining
+  pub drain_absent : get_or l 3 0 ≡ 0 → None ≡ b.draining
   unfolding place_words head_words
   drain_absent z = no_drain_words b.draining (zeros 3) _ (rw e at z)
 
-  pub drain_pending : (get_or l 3 0 ≡ 0 → ⊥) → some (get_or l 4 0) ≡ b.draining
+  pub drain_pending : (get_or l 3 0 ≡ 0 → ⊥) → Some (get_or l 4 0) ≡ b.draining
   unfolding place_words head_words
-  drain_pending z = ap (λ (x : List ℕ). some (get_or x 4 0)) e ∙ drain_words_lem b.draining (zeros 3) _ (rw e at z)
+  drain_pending z = ap (λ (x : List ℕ). Some (get_or x 4 0)) e ∙ drain_words_lem b.draining (zeros 3) _ (rw e at z)
 
-  pub drain_set : (t : ℕ) → set (set l 3 1) 4 t ≡ place_words (occupied n (with_drain (some t) b))
+  pub drain_set : (t : ℕ) → set (set l 3 1) 4 t ≡ place_words (occupied n (with_drain (Some t) b))
   unfolding place_words head_words
   drain_set t = ap (λ (x : List ℕ). set (set x 3 1) 4 t) e ∙ ap (λ (x : List ℕ). 1 ∷ n ∷ b.format ∷ x) (put_drain b.draining (zeros 3) _ 1 t)
 
-  pub drain_dropped : set (set l 3 0) 4 0 ≡ place_words (occupied n (with_drain none b))
+  pub drain_dropped : set (set l 3 0) 4 0 ≡ place_words (occupied n (with_drain None b))
   unfolding place_words head_words
   drain_dropped = ap (λ (x : List ℕ). set (set x 3 0) 4 0) e ∙ ap (λ (x : List ℕ). 1 ∷ n ∷ b.format ∷ x) (put_drain b.draining (zeros 3) _ 0 0)
 
@@ -85,7 +85,7 @@ four = ap (λ (x : List ℕ). zeros 8 ++ (zeros 84 ++ x)) (zeros_append 84 336) 
 abbrev pub headed : List ℕ → ℕ → ℕ → List ℕ
 headed l n f = set (set (set l 0 1) 1 n) 2 f
 
-put_head : (r : List ℕ) (n f : ℕ) → headed (zeros 8 ++ r) n f ≡ head_words n f none ++ r
+put_head : (r : List ℕ) (n f : ℕ) → headed (zeros 8 ++ r) n f ≡ head_words n f None ++ r
 unfolding zeros head_words
 put_head r n f = refl
 

@@ -1,6 +1,6 @@
 -- Laws of the words of a place and of a device: their lengths, the parts of a place, one place among the blocks, and that decoding undoes encoding.
 use Rattle.std.proofs.Common.{◌≡◌, ℕ, ◌+◌, ◌-◌, ◌*◌, ◌<◌, ◌≤◌, Bool, true, false, eqb, List, ◌++◌, map, length, get_or, take, set, sym, refl, ap, ◌∙◌, ap₂, append_assoc, arith, length-append, take_at, eq-eqb, eqb-true}
-use mathlib.Core.Option.{Option, none, some}
+use Rattle.std.specs.Prelude.{Option, None, Some}
 use native.Mathlib.Nat.{add-sub_cancel_left}
 use lib.ListN.{length-map}
 use Rattle.laws.specs.Lists.{all_of}
@@ -22,8 +22,8 @@ use Rattle.table.proofs.Bits.{spent_length, decode_spent_lem}
 
 pub head_length : (n format : ℕ) (d : Option ℕ) → length (head_words n format d) ≡ 8
 unfolding head_words zeros
-head_length n format none = refl
-head_length n format (some t) = refl
+head_length n format None = refl
+head_length n format (Some t) = refl
 
 -- a sized place's queues have sixteen slots each
 pub sized_queue : (q : QueueType) (n : ℕ) (b : Stream) → has_all_slots (occupied n b) ≡ true → length (queue_of q b).slots ≡ 16
@@ -218,8 +218,8 @@ figures_lent d ps l ys sized eight as_many e f =
 -- Decoding undoes encoding
 
 drain_back : (d : Option ℕ) (z r : List ℕ) → drain_in (get_or (drain_words d ++ z ++ r) 0 0) (get_or (drain_words d ++ z ++ r) 1 0) ≡ d
-drain_back none z r = refl
-drain_back (some t) z r = refl
+drain_back None z r = refl
+drain_back (Some t) z r = refl
 
 -- the first of some zeros is no mark of a live stream
 none_live : (n : ℕ) → 0 < n → eqb (get_or (zeros n) 0 0) 1 ≡ false

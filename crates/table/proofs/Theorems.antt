@@ -1,7 +1,7 @@
 -- The statements of specs/Promises, proved: the layout is lawful, valid is exactly the tables of well-formed devices, questions give what the records hold, and
 -- condition 3 and the model's other promises hold over its tables.
 use Rattle.std.proofs.Common.{◌≡◌, ℕ, zero, suc, ◌+◌, ◌-◌, ◌*◌, ◌/◌, ◌%◌, ◌^◌, ◌<◌, ◌≤◌, Bool, true, ◌&&◌, eqb, List, [], ◌++◌, map, length, get_or, take, drop, replicate, sym, refl, ap, ◌∙◌, subst, ap₂, mul-zero, mul-suc, arith, length-append, get_or-drop, get_or-take, take-take, ltb-true, lt-ltb, eqb-true}
-use mathlib.Core.Option.{Option, none, some}
+use Rattle.std.specs.Prelude.{Option, None, Some}
 use lib.ListN.{length-map}
 use Rattle.laws.specs.Lists.{all_of, to_list, same}
 use Rattle.laws.specs.Tests.{within}
@@ -139,8 +139,8 @@ narrow_queue q h =
 
 narrow_drain : (d : Option ℕ) → good_drain d ≡ true → all_of u32 (drain_words d ++ zeros 3) ≡ true
 unfolding u32
-narrow_drain none h = narrow_zeros 3
-narrow_drain (some t) h = both h (narrow_zeros 3)
+narrow_drain None h = narrow_zeros 3
+narrow_drain (Some t) h = both h (narrow_zeros 3)
 
 narrow_head : (n format : ℕ) (d : Option ℕ) → u32 n ≡ true → within format first_coded last_coded ≡ true → good_drain d ≡ true → all_of u32 (head_words n format d) ≡ true
 unfolding head_words
@@ -224,8 +224,8 @@ zero_is_fresh = ap decode (sym fresh_is_zero) ∙ meets_laws.back fresh well_fre
 -- Questions
 
 reads_for_lem : (o : Option ℕ) → length (words_read o) ≡ reads_for o
-reads_for_lem none = refl
-reads_for_lem (some k) = reads_found k
+reads_for_lem None = refl
+reads_for_lem (Some k) = reads_found k
 
 pub short_refused_lem : ShortRefused
 short_refused_lem t h = (total_short t h, λ n. stream_short t n h)
@@ -248,8 +248,8 @@ few_words t long = record {
     reads n = ap (λ (f : PendingFigure). f.reads) (asked_found t n (marked_place t n) refl long) ∙ reads_for_lem (marked_place t n)
 
     most : (n : ℕ) (o : Option ℕ) → marked_place t n ≡ o → (asked_of_stream t n).reads ≤ 9
-    most n none e = omega (arith, reads n, ap reads_for e)
-    most n (some k) e = omega (arith, reads n, ap reads_for e, marked_below t n k long e)
+    most n None e = omega (arith, reads n, ap reads_for e)
+    most n (Some k) e = omega (arith, reads n, ap reads_for e, marked_below t n k long e)
 
 pub no_other_word_lem : NoOtherWord
 no_other_word_lem t u long long' = record { total_only = λ agree. same_total t u long long' agree.0; stream_only = same_answer t u long long' }

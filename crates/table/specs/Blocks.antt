@@ -1,6 +1,6 @@
 -- The words of a stream place and of the whole device table, the records that words stand for, and with both the table's layout.
 use Rattle.std.specs.Prelude.{ℕ, Bool, cond, List, [], ◌∷◌, ◌++◌, take, ◌==◌, slice_index}
-use Rattle.std.proofs.Math.Option.{Option, none, some}
+use Rattle.std.specs.Prelude.{Option, None, Some}
 use Rattle.laws.specs.Parts.{part, zeros, pieces, read_pieces}
 use Rattle.model.specs.Numbers.{stream_places}
 use Rattle.model.specs.Device.{QueueType, input, output, Place, vacant, occupied, Device}
@@ -25,8 +25,8 @@ spare_size = 336
 
 -- the words of a drain pending or not: 1 and its ticket, or zeros
 abbrev pub drain_words : Option ℕ → List ℕ
-drain_words none = 0 ∷ 0 ∷ []
-drain_words (some t) = 1 ∷ t ∷ []
+drain_words None = 0 ∷ 0 ∷ []
+drain_words (Some t) = 1 ∷ t ∷ []
 
 -- the first eight words of a live stream's block: live, number, coded format, drain, three without use
 unfoldable pub head_words : ℕ → ℕ → Option ℕ → List ℕ
@@ -75,7 +75,7 @@ unsettled ps d = blocks ps ++ behind d.spent d.places
 
 -- the ticket of a pending drain, from its two words
 abbrev pub drain_in : ℕ → ℕ → Option ℕ
-drain_in mark ticket = cond (mark == 1) (some ticket) none
+drain_in mark ticket = cond (mark == 1) (Some ticket) None
 
 -- the place that 512 words stand for
 unfoldable pub decode_place : List ℕ → Place

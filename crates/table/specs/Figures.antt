@@ -1,7 +1,7 @@
 -- The figures of pending answers (document 02), which stand behind the blocks so that a question need not go through the records; and what the questions
 -- give on any words. A figure is how many answers are pending. The figures follow from the places.
 use Rattle.std.specs.Prelude.{◌≡◌, ℕ, suc, ◌+◌, cond, List, [], ◌∷◌, ◌++◌, map, length, nat_eq, nat_lt, slice_index}
-use Rattle.std.proofs.Math.Option.{Option, none, some}
+use Rattle.std.specs.Prelude.{Option, None, Some}
 use Rattle.laws.specs.Lists.{Each, position, to_list, numbers_below}
 use Rattle.laws.specs.Parts.{part}
 use Rattle.model.specs.Numbers.{table_words, stream_places}
@@ -45,8 +45,8 @@ marked_place t n = position (λ w. nat_eq w (suc n)) (part marks_at stream_place
 
 -- the places that a question visits, in order: up to that one, vacant ones too, or all of them
 abbrev pub places_visited : Option ℕ → List ℕ
-places_visited none = numbers_below stream_places
-places_visited (some k) = numbers_below (suc k)
+places_visited None = numbers_below stream_places
+places_visited (Some k) = numbers_below (suc k)
 
 -- the words of the table that it reads: the mark of each place that it visits, and the figure of the one that was found
 abbrev pub words_read : Option ℕ → List ℕ
@@ -54,8 +54,8 @@ words_read found = map (λ k. marks_at + k) (places_visited found) ++ map (λ k.
 
 -- what that figure is; an unknown stream has 0
 abbrev pub figure_found : List ℕ → Option ℕ → ℕ
-figure_found t none = 0
-figure_found t (some k) = slice_index t (place_figures_at + k)
+figure_found t None = 0
+figure_found t (Some k) = slice_index t (place_figures_at + k)
 
 -- refusal 1: nothing is read
 abbrev pub not_read : PendingFigure

@@ -1,6 +1,6 @@
 -- A device with no room left, every stream number spent, and every other number at an edge: the rules do not shut it out, and its table is valid.
 use Rattle.std.specs.Prelude.{◌≡◌, ℕ, zero, suc, Bool, true, false, ◌&&◌, List, [], ◌∷◌, ◌++◌, replicate}
-use Rattle.std.proofs.Math.Option.{some}
+use Rattle.std.specs.Prelude.{Some}
 use Rattle.laws.specs.Lists.{all_of}
 use Rattle.model.specs.Numbers.{stream_places, queue_slots, stream_numbers}
 use Rattle.model.specs.Device.{queued, Slot, resource, Queue, Place, vacant, occupied, Device, no_slot, no_place}
@@ -19,7 +19,7 @@ full_queue = record { width = 4096; height = 16; rate = 0xFFFFFFFF; slots = full
 -- streams n - 1, .., 0, each with a drain pending
 abbrev pub full_places : ℕ → List Place
 full_places zero = []
-full_places (suc n) = occupied n (record { format = 0x1005; draining = some 0xFFFFFFFF; inputs = full_queue; outputs = full_queue }) ∷ full_places n
+full_places (suc n) = occupied n (record { format = 0x1005; draining = Some 0xFFFFFFFF; inputs = full_queue; outputs = full_queue }) ∷ full_places n
 
 abbrev pub full_device : Device
 full_device = record { places = full_places stream_places; spent = replicate stream_numbers true }

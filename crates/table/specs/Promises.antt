@@ -1,6 +1,6 @@
 -- What is promised of the table's layout and over its tables. Each statement is proved in proofs/Theorems.
 use Rattle.std.specs.Prelude.{◌≡◌, ℕ, ◌+◌, ◌/◌, ◌%◌, ◌^◌, ◌<◌, ◌≤◌, true, ◌↔◌, List, [], ◌∷◌, length, take, ◌==◌, slice_index}
-use Rattle.std.proofs.Math.Option.{Option, none, some}
+use Rattle.std.specs.Prelude.{Option, None, Some}
 use Rattle.laws.specs.Lists.{all_of, to_list}
 use Rattle.laws.specs.Parts.{zeros}
 use Rattle.model.specs.Numbers.{table_words, stream_numbers}
@@ -52,8 +52,8 @@ ShortRefused =
 
 -- how many words a question for a stream reads: the mark of each place up to its own, k counted from 0, and its figure; or eight marks
 abbrev pub reads_for : Option ℕ → ℕ
-reads_for none = 8
-reads_for (some k) = k + 2
+reads_for None = 8
+reads_for (Some k) = k + 2
 
 -- on any table that is long enough: the place is that of the first mark that is the number's; the words read are as many as the places that are visited, and one
 -- more for the figure where it is found; they are no more than nine

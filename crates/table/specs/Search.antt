@@ -1,6 +1,6 @@
 -- What a search of the stream places finds. A place is named by its number in the device, counted from 0.
 use Rattle.std.specs.Prelude.{ℕ, Bool, true, false, ◌&&◌, List, length, ◌==◌, slice_index, slice_index_or}
-use Rattle.std.proofs.Math.Option.{Option}
+use Rattle.std.specs.Prelude.{Option}
 use Rattle.laws.specs.Lists.{position}
 use Rattle.model.specs.Numbers.{queue_slots}
 use Rattle.model.specs.Device.{Place, vacant, occupied}

@@ -1,14 +1,12 @@
 // Functions on the 512 words of a stream place. The contracts speak of every stream whose words are lent.
 ghost use Rattle.std.specs.Prelude.{◌≡◌, ℕ, ◌≤◌, length};
-ghost use Rattle.std.proofs.Math.Option.{none, some};
+ghost use Rattle.std.specs.Prelude.{Option};
 ghost use Rattle.laws.specs.Parts.{zeros};
 ghost use Rattle.model.specs.Device.{Stream, vacant, occupied, new_queue, new_stream, with_drain};
 ghost use Rattle.queue.specs.Words.{queue_words};
 ghost use Rattle.table.specs.Blocks.{queue_start, place_words};
 ghost use Rattle.protocol.specs.QueueTypes.{queue_type_of};
-ghost use Rattle.table.specs.Values.{drain_of};
 
-use crate::DrainState;
 use protocol::QueueType;
 use queue::{HEIGHT, WIDTH};
 
@@ -37,17 +35,6 @@ const NEW_WIDTH: u32 = 640;
 
 const NEW_HEIGHT: u32 = 480;
 
-// Sets all words to zero.
-pub fn fill_zero(s: &mut [u32])
-    ensures { s.new ≡ zeros (length s.old) }
-{
-    let mut i = 0;
-    while i < s.len() {
-        s[i] = 0;
-        i += 1;
-    }
-}
-
 // Writes a new queue's words over 84 zero words.
 fn new_queue(q: &mut [u32])
     requires { length q.old ≡ 84 }
@@ -74,7 +61,7 @@ pub fn free_stream(b: &mut [u32])
     requires { length b.old ≡ 512 }
     ensures { b.new ≡ place_words vacant }
 {
-    fill_zero(b);
+    b.fill(0);
 }
 
 // The coded format of the block's stream.
@@ -86,32 +73,31 @@ pub fn coded_format(b: &[u32]) -> u32
 }
 
 // The pending drain of the block's stream.
-pub fn pending_drain(b: &[u32]) -> DrainState
+pub fn pending_drain(b: &[u32]) -> Option<u32>
     requires { length b.now ≡ 512 }
-    ensures { (n : ℕ) (s : Stream) → b.now ≡ place_words (occupied n s) → drain_of result ≡ s.draining }
+    ensures { (n : ℕ) (s : Stream) → b.now ≡ place_words (occupied n s) → result ≡ s.draining }
 {
     if b[DRAIN] == 0 {
-        return DrainState::Idle;
+        return None;
     }
-    DrainState::Draining(b[TICKET])
+    Some(b[TICKET])
 }
 
-// A drain of the block's stream is pending under that ticket.
-pub fn set_drain(b: &mut [u32], ticket: u32)
+// A drain of the block's stream is pending under that ticket from now on, or none is.
+pub fn set_drain(b: &mut [u32], drain: Option<u32>)
     requires { length b.old ≡ 512 }
-    ensures { (n : ℕ) (s : Stream) → b.old ≡ place_words (occupied n s) → b.new ≡ place_words (occupied n (with_drain (some ticket) s)) }
+    ensures { (n : ℕ) (s : Stream) → b.old ≡ place_words (occupied n s) → b.new ≡ place_words (occupied n (with_drain drain s)) }
 {
-    b[DRAIN] = 1;
-    b[TICKET] = ticket;
-}
-
-// No drain of the block's stream is pending.
-pub fn drop_drain(b: &mut [u32])
-    requires { length b.old ≡ 512 }
-    ensures { (n : ℕ) (s : Stream) → b.old ≡ place_words (occupied n s) → b.new ≡ place_words (occupied n (with_drain none s)) }
-{
-    b[DRAIN] = 0;
-    b[TICKET] = 0;
+    match drain {
+        Some(ticket) => {
+            b[DRAIN] = 1;
+            b[TICKET] = ticket;
+        }
+        None => {
+            b[DRAIN] = 0;
+            b[TICKET] = 0;
+        }
+    }
 }
 
 // Where a queue's words start in a block.

@@ -1,17 +1,15 @@
 // The figures of pending answers: their words, counting in a block, and the questions.
-ghost use Rattle.std.specs.Prelude.{◌≡◌, suc, ◌%◌, ◌^◌, ◌<◌, ◌≤◌, true, List, length, ◌==◌, slice_set};
+ghost use Rattle.std.specs.Prelude.{◌≡◌, IfSome, suc, ◌%◌, ◌^◌, ◌<◌, ◌≤◌, true, List, length, ◌==◌, slice_set};
 ghost use Rattle.laws.specs.Lists.{all_of, total};
 ghost use Rattle.model.specs.Numbers.{table_words, stream_places};
 ghost use Rattle.model.specs.Device.{Place, pending_at};
-ghost use Rattle.queue.specs.Found.{found_at, FoundBelow};
 ghost use Rattle.table.specs.Blocks.{place_words};
 ghost use Rattle.table.specs.Search.{has_all_slots};
 ghost use Rattle.table.specs.Figures.{figures_size, place_mark, figure_words, marked_place, not_read, asked_in_all, asked_of_stream};
 
 use crate::block::{DRAIN, INPUTS, LIVE, NUMBER, OUTPUTS, QUEUES_END};
 use crate::{PLACES, TABLE_WORDS};
-use protocol::SHORT_TABLE;
-use queue::Found;
+use protocol::Refusal;
 
 // The words of the table: the total, the marks of the places, their figures, and the first word behind them.
 pub const TOTAL_AT: usize = 4129;
@@ -33,7 +31,7 @@ pub const FIGURES_WORDS: usize = 17;
 
 // What a question gives: the number of its refusal, or 0, how many answers are pending, and how many words of the table were read. It crosses to the host as it is.
 #[repr(C)]
-#[derive(Clone, Copy)]
+#[derive(Clone, Copy, Debug, PartialEq, Eq)]
 pub struct PendingFigure {
     pub refusal: u32,
     pub pending: u32,
@@ -48,17 +46,14 @@ pub fn mark_of(b: &[u32]) -> u32
     if b[LIVE] == 0 {
         return 0;
     }
-    std::num::wrapping_add_u32(b[NUMBER], 1)
+    b[NUMBER].wrapping_add(1)
 }
 
 // Whether a word is the mark of that stream number. The word of a vacant place is nobody's.
 fn is_mark(word: u32, number: u32) -> bool
     ensures { result ≡ (word == suc number) }
 {
-    if word == 0 {
-        return false;
-    }
-    word - 1 == number
+    word.checked_sub(1) == Some(number)
 }
 
 // How many answers are pending to the stream of a block.
@@ -82,10 +77,8 @@ pub fn add_up(w: &[u32]) -> u32
     ensures { result ≡ total w.now % 2 ^ 32 }
 {
     let mut all: u32 = 0;
-    let mut i = 0;
-    while i < w.len() {
-        all = std::num::wrapping_add_u32(all, w[i]);
-        i += 1;
+    for n in w {
+        all = all.wrapping_add(*n);
     }
     all
 }
@@ -121,8 +114,7 @@ pub fn pending_of_stream(table: &[u32], stream: u32) -> PendingFigure
     if table.len() < TABLE_WORDS {
         return not_read();
     }
-    let found = marked_place(table, stream);
-    let Found::At(k) = found else {
+    let Some(k) = marked_place(table, stream) else {
         return PendingFigure {
             refusal: 0,
             pending: 0,
@@ -137,19 +129,12 @@ pub fn pending_of_stream(table: &[u32], stream: u32) -> PendingFigure
 }
 
 // The place whose mark is that of the stream number; they are looked at in order.
-fn marked_place(table: &[u32], number: u32) -> Found
+fn marked_place(table: &[u32], number: u32) -> Option<usize>
     requires { table_words ≤ length table.now }
-    ensures within { FoundBelow result 8 }
-    ensures found { found_at result ≡ marked_place table.now number }
+    ensures within { IfSome result (λ k. k < 8) }
+    ensures found { result ≡ marked_place table.now number }
 {
-    let mut k = 0;
-    while k < PLACES {
-        if is_mark(table[MARKS_AT + k], number) {
-            return Found::At(k);
-        }
-        k += 1;
-    }
-    Found::Nothing
+    (0..PLACES).find(|k| is_mark(table[MARKS_AT + *k], number))
 }
 
 // A table that is too short: nothing is read.
@@ -157,7 +142,7 @@ fn not_read() -> PendingFigure
     ensures { result ≡ not_read }
 {
     PendingFigure {
-        refusal: SHORT_TABLE,
+        refusal: Refusal::ShortTable as u32,
         pending: 0,
         reads: 0,
     }

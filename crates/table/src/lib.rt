@@ -5,19 +5,19 @@
 ghost use Rattle.std.specs.Prelude.{◌≡◌};
 ghost use Rattle.model.specs.Tables.{freshen};
 ghost use Rattle.table.specs.Blocks.{layout};
+ghost use Rattle.protocol.specs.Refusals.{refusal_of};
 ghost use Rattle.table.specs.Values.{freshened};
 
-use protocol::SHORT_TABLE;
+use protocol::Refusal;
 
 mod block;
 mod figures;
 mod search;
 mod spent;
 
-use block::fill_zero;
 pub use block::{
     DRAIN, FORMAT, INPUTS, LIVE, NUMBER, OUTPUTS, QUEUES_END, TICKET, UNUSED, coded_format,
-    drop_drain, free_stream, new_stream, pending_drain, queue_start, set_drain,
+    free_stream, new_stream, pending_drain, queue_start, set_drain,
 };
 pub use figures::{
     FIGURES_END, FIGURES_WORDS, FIRST_FIGURE, FIRST_MARK, PendingFigure, TOTAL, TOTAL_AT, add_up,
@@ -39,20 +39,13 @@ pub const SPENT_END: usize = 4128;
 // The used words of a table: the blocks, the spent numbers, the figures, and words without use.
 pub const TABLE_WORDS: usize = 4160;
 
-// A drain that is pending, with its ticket, or none.
-#[derive(Clone, Copy)]
-pub enum DrainState {
-    Draining(u32),
-    Idle,
-}
-
-// Makes the table fresh: 1 and nothing changed where it is too short, else 0 and the used words zero.
-pub fn fresh(table: &mut [u32]) -> u32
-    ensures { freshened result table.new ≡ freshen layout table.old }
+// Makes the table fresh: where it is too short it is refused and stays as it is, else its used words become zero.
+pub fn fresh(table: &mut [u32]) -> Result<(), Refusal>
+    ensures { freshened (refusal_of result) table.new ≡ freshen layout table.old }
 {
     if table.len() < TABLE_WORDS {
-        return SHORT_TABLE;
+        return Err(Refusal::ShortTable);
     }
-    fill_zero(&mut table[0..TABLE_WORDS]);
-    0
+    table[0..TABLE_WORDS].fill(0);
+    Ok(())
 }

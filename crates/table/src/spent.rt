@@ -9,19 +9,11 @@ use protocol::STREAM_NUMBERS;
 // The numbers of one word.
 const WORD_NUMBERS: u32 = 32;
 
-// What a bit counts in its word.
-const BITS: [u32; 32] = [
-    1, 2, 4, 8, 0x10, 0x20, 0x40, 0x80, 0x100, 0x200, 0x400, 0x800, 0x1000, 0x2000, 0x4000, 0x8000,
-    0x10000, 0x20000, 0x40000, 0x80000, 0x100000, 0x200000, 0x400000, 0x800000, 0x1000000,
-    0x2000000, 0x4000000, 0x8000000, 0x10000000, 0x20000000, 0x40000000, 0x80000000,
-];
-
 // What the bit of a number counts in its word.
 fn bit_of(number: u32) -> u32
     ensures { result ≡ 2 ^ (number % word_numbers) }
 {
-    let bit = (number % WORD_NUMBERS) as usize;
-    BITS[bit]
+    1 << (number % WORD_NUMBERS)
 }
 
 // Whether the bit of a number is set.
@@ -55,5 +47,5 @@ pub fn spend(w: &mut [u32], number: u32)
     }
     let at = (number / WORD_NUMBERS) as usize;
     let bit = bit_of(number);
-    w[at] = w[at] + bit;
+    w[at] += bit;
 }

@@ -1,4 +1,4 @@
 pub mod Utf8
 pub mod Grammar
 pub mod Tag
-pub mod Found
+pub mod Due

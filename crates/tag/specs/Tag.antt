@@ -1,6 +1,6 @@
 -- The tag of a create frame (document 01, 0x0101), and the display name.
 use Rattle.std.specs.Prelude.{Bool, cond, not, ◌&&◌, List, [], ◌∷◌, ℕ, suc, ltb, eqb, length, take, drop}
-use Rattle.std.proofs.Math.Option.{Option, none, some}
+use Rattle.std.specs.Prelude.{Option, None, Some}
 use Rattle.field.specs.Field.{field}
 use Rattle.tag.specs.Utf8.{utf8}
 
@@ -32,7 +32,7 @@ good_tag t = ltb (nul_at t) (length t) && utf8 (tag_text t)
 
 -- how many octets a good tag has before its NUL; none for a bad tag
 unfoldable pub tag_length : List ℕ → Option ℕ
-tag_length t = cond (good_tag t) (some (nul_at t)) none
+tag_length t = cond (good_tag t) (Some (nul_at t)) None
 
 -- the tag of a frame
 abbrev pub tag_in : List ℕ → List ℕ

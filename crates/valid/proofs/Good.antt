@@ -1,7 +1,7 @@
 -- The rules of a place on words of 32 bits: what is left to test once each word is one.
 use mathlib.Core.Path.{◌≡◌, refl, sym, ◌∙◌}
 use mathlib.Core.Bool.{Bool, true, false, ◌&&◌}
-use mathlib.Core.Option.{Option, none, some}
+use Rattle.std.specs.Prelude.{Option, None, Some}
 use mathlib.Core.List.{List, [], ◌∷◌, ◌++◌}
 use Prim.Native.Nat.{ℕ, ◌/◌, ◌%◌, ◌^◌, ◌<◌}
 use native.Mathlib.Omega.{arith}
@@ -75,8 +75,8 @@ wide_queue q sixteen h =
     turned false false v = refl
 
 wide_drain : (d : Option ℕ) → all_of u32 (drain_words d ++ zeros 3) ≡ true → good_drain d ≡ true
-wide_drain none h = refl
-wide_drain (some t) h = and_left (u32 t) _ (and_right (u32 1) _ h)
+wide_drain None h = refl
+wide_drain (Some t) h = and_left (u32 t) _ (and_right (u32 1) _ h)
 
 pub wide_place : (n : ℕ) (b : Stream) → has_all_slots (occupied n b) ≡ true → all_of u32 (place_words (occupied n b)) ≡ true
     → good_place (occupied n b) ≡ within b.format first_coded last_coded && (queue_rules b.inputs && queue_rules b.outputs)

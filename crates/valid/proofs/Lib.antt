@@ -1,3 +1,4 @@
+pub mod Chains
 pub mod Elements
 pub mod QueueStands
 pub mod FigureStands

@@ -1,34 +1,35 @@
 -- The test whether words are those of the device that they stand for, block by block and part by part.
 use mathlib.Core.Path.{◌≡◌, refl, sym, ap, ap₂, ◌∙◌, subst}
-use mathlib.Core.Bool.{Bool, true, false, ◌&&◌, and-true, and-false, and_assoc}
+use mathlib.Core.Bool.{Bool, true, false, ◌&&◌, and-true, and-false, and_comm, and_assoc}
 use mathlib.Core.List.{List, [], ◌∷◌, ◌++◌}
 use Prim.Native.Nat.{ℕ, ◌+◌, ◌*◌, ◌%◌, ◌^◌, ◌<◌, ◌≤◌}
 use native.Mathlib.Omega.{arith}
 use lib.ListN.{length, get_or, take, drop, length-drop, get_or-eq_default}
 use lib.Seq.{drop-drop, take_all, length-take-le, get_or-take, get_or-drop}
 use lib.Dec.{eqb, ltb, lit<}
-use borrow.Author.Tests.{eq-eqb, ne_eqb, ltb-true, ltb-false}
+use borrow.Author.Tests.{eq-eqb, ne_eqb, eqb-true, ltb-true, ltb-false}
 use Rattle.laws.specs.Lists.{all_of, same, distinct, total}
 use Rattle.laws.specs.Tests.{all_below}
-use Rattle.laws.specs.Parts.{part, zeros}
+use Rattle.laws.specs.Parts.{part, zeros, read_pieces}
 use Rattle.laws.proofs.Tests.{all_ext, below_both, and_left, and_right}
 use Rattle.laws.proofs.Parts.{zero_length}
 use Rattle.laws.proofs.Lists.{decide, cond_elim, eqb_same}
 use Rattle.laws.proofs.Same.{same_eq, same_true, same_cut}
 use Rattle.laws.proofs.Pieces.{same_pieces, read_length, read_at, all_places, all_read, pieces_again}
 use Rattle.model.specs.Numbers.{table_words, stream_places, stream_numbers}
-use Rattle.model.specs.Device.{QueueType, input, output, Stream, Place, vacant, queue_of, pending_at, pending_among}
+use Rattle.model.specs.Device.{QueueType, input, output, Stream, Place, vacant, queue_of, is_spent, pending_at, pending_among}
 use Rattle.model.specs.WellFormed.{good_place, distinct_places, good_places, spent_in, well_formed}
 use Rattle.model.specs.Tables.{valid}
 use Rattle.queue.specs.Words.{queue_words, decode_queue}
 use Rattle.queue.proofs.Records.{queue_length_lem, decoded_slots}
 use Rattle.table.specs.Spent.{spent_size, spent_words, decode_spent}
-use Rattle.table.specs.Figures.{total_at, figures_size, place_mark, figure_words}
+use Rattle.table.specs.Figures.{total_at, figures_size, first_mark, first_figure, place_mark, figure_words}
 use Rattle.table.specs.Blocks.{place_size, head_words, place_words, blocks, blocks_size, gap_size, unused_size, behind, encode, drain_in, decode_place, places_in, decode, layout}
 use Rattle.table.specs.Search.{place_at, has_all_slots}
 use Rattle.valid.specs.Rules.{head_stands, place_stands, place_spent, place_valid, place_right, numbers_from, blocks_valid, blocks_right}
 use Rattle.table.proofs.Bits.{spent_length, all_words, spent_decoded, spent_again}
 use Rattle.table.proofs.Records.{head_length, queue_sized, place_length, blocks_length, figure_length}
+use Rattle.table.proofs.Heads.{vacant_word}
 use Rattle.table.proofs.Counted.{mark_below}
 use Rattle.valid.proofs.Elements.{places_numbers}
 use Rattle.valid.proofs.FigureStands.{counted_at, figures_test, counted_sum}
@@ -97,36 +98,59 @@ module _ (b : List ℕ) (long : length b ≡ 512) (live : get_or b 0 0 ≡ 1) wh
   cut92 : same (drop 8 b) (queue_read 8 ++ (queue_read 92 ++ zeros 336)) ≡ queue_stands 8 && same (drop 92 b) (queue_read 92 ++ zeros 336)
   cut92 = same_cut (drop 8 b) (queue_read 8) (queue_read 92 ++ zeros 336) 84 (rw length-drop (omega arith)) (queue_84 8) ∙ rw (drop-drop 84 8 b)
 
-  cut176 : same (drop 92 b) (queue_read 92 ++ zeros 336) ≡ queue_stands 92 && same (part 176 336 b) (zeros 336)
+  cut176 : same (drop 92 b) (queue_read 92 ++ zeros 336) ≡ queue_stands 92 && same (part 176 336 b) (zeros (length (part 176 336 b)))
   cut176 =
       same_cut (drop 92 b) (queue_read 92) (zeros 336) 84 (rw length-drop (omega arith)) (queue_84 92)
-      ∙ rw (drop-drop 84 92 b, take_all 336 (drop 176 b) (rw length-drop (omega arith)))
+      ∙ rw (drop-drop 84 92 b, take_all 336 (drop 176 b) (rw length-drop (omega arith)), length-drop 176 b, long)
 
-  pub stands_live : place_stands b ≡ head_stands (take 8 b) && (queue_stands 8 && (queue_stands 92 && same (part 176 336 b) (zeros 336)))
+  pub stands_live : place_stands b ≡ head_stands (take 8 b) && (queue_stands 8 && (queue_stands 92 && same (part 176 336 b) (zeros (length (part 176 336 b)))))
   unfolding decode_place place_words
   stands_live =
       rw (eq-eqb (get_or b 0 0) 1 live)
       (cut8 ∙ ap (λ (x : Bool). head_stands (take 8 b) && x) (cut92 ∙ ap (λ (x : Bool). queue_stands 8 && x) cut176))
 
--- where the number of a block's stream is spent, its mark is exact
-pub mark_exact : {r : ℕ} (spent b : List ℕ) → length spent ≡ spent_size → place_spent spent b ≡ true → r ≡ place_mark (decode_place b) % 2 ^ 32 → r ≡ place_mark (decode_place b)
-unfolding place_spent
-mark_exact spent b long s e = omega (arith, e, mark_below (decode_spent spent) (spent_decoded spent long) (decode_place b) s)
+-- what the test of a block's words takes
+pub ruleset block_laws = (stands_vacant, stands_live)
 
--- a vacant block, with its mark and its figure: each of the three tests may fail
-module _ (spent : List ℕ) (mark figure : ℕ) (b : List ℕ) (first : get_or b 0 0 ≡ 0) where
-  vacant_right : place_right spent mark figure b ≡ (same b (zeros 512) && (eqb mark 0 && eqb figure 0))
-  unfolding place_right place_valid place_spent decode_place place_words
-  vacant_right = rw (ne_eqb (get_or b 0 0) 1 (λ e. omega (arith, first, e)), and-true (same b (zeros 512)))
+-- a block that stands for its place and does not begin with 0 is that of a live stream, whose number is its second word
+live_first : (b : List ℕ) → (get_or b 0 0 ≡ 0 → ⊥) → place_stands b ≡ true → get_or b 0 0 ≡ 1
+unfolding decode_place
+live_first b used stands =
+    decide (eqb (get_or b 0 0) 1) (eqb-true (get_or b 0 0) 1)
+    (λ e. absurd (used (vacant_word (same_true b (place_words vacant) (rw e at stands)))))
 
-  pub vacant_marked : (mark ≡ 0 → ⊥) → false ≡ place_right spent mark figure b
-  vacant_marked h = sym (vacant_right ∙ rw (ne_eqb mark 0 h) (and-false (same b (zeros 512))))
+pub number_spent : {r : Bool} (spent b : List ℕ) → (get_or b 0 0 ≡ 0 → ⊥) → place_stands b ≡ true → r ≡ is_spent (get_or b 1 0) (decode_spent spent) → r ≡ place_spent spent b
+unfolding place_spent decode_place
+number_spent spent b used stands e = e ∙ rw (eq-eqb (get_or b 0 0) 1 (live_first b used stands))
 
-  pub vacant_counted : mark ≡ 0 → (figure ≡ 0 → ⊥) → false ≡ place_right spent mark figure b
-  vacant_counted e h = sym (vacant_right ∙ rw (eq-eqb mark 0 e, ne_eqb figure 0 h) (and-false (same b (zeros 512))))
+-- a block that passes stands for its place
+pub valid_words : (spent b : List ℕ) → place_valid spent b ≡ true → b ≡ place_words (decode_place b)
+unfolding place_valid
+valid_words spent b e = same_true b (place_words (decode_place b)) (and_left (place_stands b) _ e)
 
-  pub vacant_zeros : mark ≡ 0 → figure ≡ 0 → same b (zeros 512) ≡ place_right spent mark figure b
-  vacant_zeros e h = sym (vacant_right ∙ rw (eq-eqb mark 0 e, eq-eqb figure 0 h) (and-true (same b (zeros 512))))
+-- and as the number of its stream is spent, its mark is exact
+pub mark_exact : {r : ℕ} (spent b : List ℕ) → length spent ≡ spent_size → place_valid spent b ≡ true → (b ≡ place_words (decode_place b) → r ≡ place_mark (decode_place b) % 2 ^ 32) → r ≡ place_mark (decode_place b)
+unfolding place_spent place_valid
+mark_exact spent b long v e =
+    let number = and_right (good_place (decode_place b)) _ (and_right (place_stands b) _ v) in
+    omega (arith, e (valid_words spent b v), mark_below (decode_spent spent) (spent_decoded spent long) (decode_place b) number)
+
+-- a vacant block, with its mark and its figure
+pub vacant_right : (spent : List ℕ) (mark figure : ℕ) (b : List ℕ) → get_or b 0 0 ≡ 0 → place_right spent mark figure b ≡ (eqb mark 0 && (eqb figure 0 && same b (zeros 512)))
+unfolding place_right place_valid place_spent decode_place place_words
+vacant_right spent mark figure b first = rw (ne_eqb (get_or b 0 0) 1 (λ e. omega (arith, first, e)), and-true (same b (zeros 512))) (turned (same b (zeros 512)) (eqb mark 0) (eqb figure 0))
+  where
+    turned : (z m f : Bool) → (z && (m && f)) ≡ (m && (f && z))
+    turned z true f = and_comm z f
+    turned z false f = and-false z
+
+-- the tests of eight blocks, each in its place among the words
+pub each_block : {l : List (List ℕ)} (spent figures w : List ℕ) → l ≡ read_pieces (λ x. x) place_size stream_places w
+    → all_below stream_places (λ k. place_right spent (get_or figures (first_mark + k) 0) (get_or figures (first_figure + k) 0) (get_or l k []))
+    ≡ all_below stream_places (λ k. place_right spent (get_or figures (first_mark + k) 0) (get_or figures (first_figure + k) 0) (part (place_size * k) place_size w))
+each_block {l} spent figures w e =
+    all_ext _ _ stream_places (λ k h. ap (place_right spent (get_or figures (first_mark + k) 0) (get_or figures (first_figure + k) 0))
+    (ap (λ (x : List (List ℕ)). get_or x k []) e ∙ read_at (λ x. x) place_size stream_places w k [] h))
 
 -- The eight words before the queues, by the drain's first word
 
@@ -160,6 +184,9 @@ module _ (h : List ℕ) (long : length h ≡ 8) where
   head_other =
       eight (λ x. get_or x 0 0 ≡ 1 → (get_or x 3 0 ≡ 0 → ⊥) → (get_or x 3 0 ≡ 1 → ⊥) → false ≡ head_stands x)
       (λ a n f o t x y z one e d. rw (one, ne_eqb o 1 d, ne_eqb o 0 e, eqb_same n, eqb_same f)) h long
+
+-- what the test of a head's words takes
+pub ruleset head_laws = (head_idle, head_draining, head_other)
 
 -- The whole test of eight blocks: each is that of a place that keeps the rules, and no number stands twice
 
@@ -198,6 +225,19 @@ blocks_test t w long =
 blocks_length_of : (t : List ℕ) → length (blocks (places_in t)) ≡ blocks_size
 blocks_length_of t = omega (arith, blocks_length (places_in t) (decode_sized t), decode_eight t)
 
+-- what is tested of them: the blocks with their figures, the word before the figures, the total, and the words behind
+abbrev pub right_blocks : List ℕ → Bool
+right_blocks t = blocks_right (part blocks_size spent_size t) (part total_at figures_size t) (take blocks_size t)
+
+abbrev pub gap_zero : List ℕ → Bool
+gap_zero t = same (part (blocks_size + spent_size) gap_size t) (zeros gap_size)
+
+abbrev pub total_right : List ℕ → Bool
+total_right t = eqb (get_or (part total_at figures_size t) 0 0) (pending_among (places_in (take blocks_size t)))
+
+abbrev pub unused_zero : List ℕ → Bool
+unused_zero t = same (part (total_at + figures_size) unused_size t) (zeros unused_size)
+
 -- of the words behind the blocks those of the numbers may be any, the figures are those of the places, and the others are zero
 module _ (t : List ℕ) (long : length t ≡ table_words) where
   abbrev numbers : List ℕ
@@ -215,7 +255,7 @@ module _ (t : List ℕ) (long : length t ≡ table_words) where
   cut_at a n x y h e = same_cut (drop a t) x y n (omega (arith, length-drop a t)) e ∙ ap (λ (w : List ℕ). same (part a n t) x && same w y) (drop-drop n a t)
 
   abbrev rest_valid : List Place → Bool
-  rest_valid ps = same (part (blocks_size + spent_size) gap_size t) (zeros gap_size) && (same (part total_at figures_size t) (figure_words ps) && same (part (total_at + figures_size) unused_size t) (zeros unused_size))
+  rest_valid ps = gap_zero t && (same (part total_at figures_size t) (figure_words ps) && unused_zero t)
 
   module _ (narrow : (i : ℕ) → get_or t i 0 < 2 ^ 32) where
     numbers_narrow : (i : ℕ) → get_or numbers i 0 < 2 ^ 32
@@ -232,7 +272,7 @@ module _ (t : List ℕ) (long : length t ≡ table_words) where
         ∙ ap₂ (λ (x y : Bool). x && y)
         (same_eq numbers spent (sym (spent_again numbers numbers_size (all_words numbers numbers_narrow))))
         (cut_at (blocks_size + spent_size) gap_size (zeros gap_size) (figure_words ps ++ zeros unused_size) (omega arith) (zero_length gap_size)
-        ∙ ap (λ (x : Bool). same (part (blocks_size + spent_size) gap_size t) (zeros gap_size) && x)
+        ∙ ap (λ (x : Bool). gap_zero t && x)
         (cut_at total_at figures_size (figure_words ps) (zeros unused_size) (omega arith) (figure_length ps eight)
         ∙ ap (λ (w : List ℕ). same (part total_at figures_size t) (figure_words ps) && same w (zeros unused_size))
         (sym (take_all unused_size (drop (total_at + figures_size) t) (omega (arith, length-drop (total_at + figures_size) t))))))
@@ -261,12 +301,8 @@ module _ (t : List ℕ) (long : length t ≡ table_words) where
     front = take blocks_size t
 
     -- the tests of all places, those of their numbers, the gap, the total, the counts and the words behind
-    reorder : (a d g t c u : Bool) → (a && d) && (g && ((t && c) && u)) ≡ ((a && c) && d) && (g && (t && u))
-    reorder false d g t c u = refl
-    reorder true false g t c u = ap (λ (x : Bool). x && (g && (t && u))) (sym (and-false c))
-    reorder true true false t c u = sym (and-false (c && true))
-    reorder true true true false c u = sym (and-false (c && true))
-    reorder true true true true c u = ap (λ (x : Bool). x && u) (sym (and-true c))
+    reorder : (a d g t c u : Bool) → (a && d) && (g && ((t && c) && u)) ≡ ((((a && c) && d) && g) && t) && u
+    reorder a d g t c u = grind arith
 
     each_right : (all_below stream_places (λ k. place_valid numbers (part (place_size * k) place_size front)) && all_below stream_places (counted_at figures (places_in front)))
         ≡ all_below stream_places (λ k. place_right numbers (get_or figures (1 + k) 0) (get_or figures (9 + k) 0) (part (place_size * k) place_size front))
@@ -279,31 +315,22 @@ module _ (t : List ℕ) (long : length t ≡ table_words) where
         let figure = get_or figures (9 + k) 0 in
         ap (λ (p : Place). place_valid numbers w && (eqb mark (place_mark p) && eqb figure (pending_at p))) (read_at decode_place place_size stream_places front k vacant h))
 
-    abbrev gap_zero : Bool
-    gap_zero = same (part (blocks_size + spent_size) gap_size t) (zeros gap_size)
-
-    abbrev unused_zero : Bool
-    unused_zero = same (part (total_at + figures_size) unused_size t) (zeros unused_size)
-
-    abbrev total_right : Bool
-    total_right = eqb (get_or figures 0 0) (pending_among (places_in front))
-
     figures_size_lem : length figures ≡ figures_size
     figures_size_lem = length-take-le figures_size (drop total_at t) (omega (arith, length-drop total_at t))
 
-    pub right_test : valid layout t ≡ (blocks_right numbers figures front && (gap_zero && (total_right && unused_zero)))
+    pub right_test : valid layout t ≡ (((right_blocks t && gap_zero t) && total_right t) && unused_zero t)
     unfolding blocks_valid blocks_right
     right_test =
         let ps = places_in front in
         let each = all_below stream_places (λ k. place_valid numbers (part (place_size * k) place_size front)) in
         let once = distinct (numbers_from 0 place_size stream_places front) in
         valid_test
-        ∙ ap (λ (x : Bool). (each && once) && (gap_zero && (x && unused_zero))) (figures_test figures ps figures_size_lem (decode_eight front))
-        ∙ reorder each once gap_zero total_right (all_below stream_places (counted_at figures ps)) unused_zero
-        ∙ ap (λ (x : Bool). (x && once) && (gap_zero && (total_right && unused_zero))) each_right
+        ∙ ap (λ (x : Bool). (each && once) && (gap_zero t && (x && unused_zero t))) (figures_test figures ps figures_size_lem (decode_eight front))
+        ∙ reorder each once (gap_zero t) (total_right t) (all_below stream_places (counted_at figures ps)) (unused_zero t)
+        ∙ ap (λ (x : Bool). (((x && once) && gap_zero t) && total_right t) && unused_zero t) each_right
 
     -- where the blocks are right, the total that is kept has to be the sum of the figures
-    pub right_sum : blocks_right numbers figures front ≡ true → total (part 9 stream_places figures) % 2 ^ 32 ≡ pending_among (places_in front)
+    pub right_sum : right_blocks t ≡ true → total (part 9 stream_places figures) % 2 ^ 32 ≡ pending_among (places_in front)
     unfolding blocks_right
     right_sum e =
         counted_sum figures (places_in front) figures_size_lem (decode_eight front) (decode_sized front)

@@ -1,6 +1,6 @@
 -- Rules of a valid table in the form in which the test looks at them.
 use Rattle.std.specs.Prelude.{◌≡◌, Bool, true, false, cond, ◌&&◌, List, ℕ, ◌+◌, ◌*◌, ◌%◌, length, get_or, drop, eqb}
-use Rattle.std.proofs.Math.Option.{Option, none, some}
+use Rattle.std.specs.Prelude.{Option, None, Some}
 use Rattle.laws.specs.Lists.{same, numbers_in, stands_in, distinct}
 use Rattle.laws.specs.Tests.{all_below}
 use Rattle.laws.specs.Parts.{part, read_pieces}
@@ -33,7 +33,7 @@ place_right spent mark figure w = place_valid spent w && (eqb mark (place_mark (
 
 -- the number in an element's words: none where the first is 0, otherwise the second
 abbrev pub words_number : List ℕ → Option ℕ
-words_number w = cond (eqb (get_or w 0 0) 0) none (some (get_or w 1 0))
+words_number w = cond (eqb (get_or w 0 0) 0) None (Some (get_or w 1 0))
 
 -- the numbers in `count` elements of `step` words each, from element i on
 unfoldable pub numbers_from : ℕ → ℕ → ℕ → List ℕ → List ℕ

@@ -1,114 +1,81 @@
 // The log program: standard input to standard output, from a fresh table, in fixed memory. All that it does with what it reads is in `replay`.
 #![tactic(auto)]
 
+use replay::KeptLine;
+use std::fmt;
 use std::io::{Read, Write};
 
-// How far the log was read: there may be more, or it has ended, each with the bytes that are kept of a line that has not ended; or a read or a
-// write failed.
+// Why a log was not run to its end.
 #[derive(Clone, Copy)]
-enum Progress {
-    More(usize),
-    Ended(usize),
+enum Failure {
     Unread,
     Unwritten,
+}
+
+impl fmt::Display for Failure {
+    fn fmt<W: fmt::Write>(&self, f: &mut fmt::Formatter<W>) -> fmt::Result {
+        f.write_str(match self {
+            Failure::Unread => "the log cannot be read to its end",
+            Failure::Unwritten => "the answers cannot be written",
+        })
+    }
 }
 
 // Offers what was read until it is used up, and writes what each call gives.
 fn feed_all(
     output: &mut impl Write,
     table: &mut [u32],
-    held: &mut [u8; 8379],
-    have: usize,
+    kept: &mut KeptLine,
     piece: &[u8],
-) -> Progress {
+) -> Result<(), Failure> {
     let mut out = [0u8; 2112];
-    let mut kept = have;
-    let mut at = 0;
-    while at < piece.len() {
-        let fed = replay::feed(table, held, kept, &piece[at..], &mut out);
-        let used = fed.used;
-        let written = fed.written;
-        if output.write_all(&out[..written]).is_err() {
-            return Progress::Unwritten;
-        }
-        kept = fed.have;
-        at += used;
+    let mut rest = piece;
+    while !rest.is_empty() {
+        let fed = replay::feed(table, kept, rest, &mut out);
+        output
+            .write_all(&out[..fed.written])
+            .map_err(|_| Failure::Unwritten)?;
+        rest = &rest[fed.used..];
     }
-    Progress::More(kept)
+    Ok(())
 }
 
-// Reads once, and feeds what came.
-fn read_once(
-    input: &mut impl Read,
-    output: &mut impl Write,
-    table: &mut [u32],
-    held: &mut [u8; 8379],
-    have: usize,
-) -> Progress {
-    let mut piece = [0u8; 4096];
-    let Ok(n) = input.read(&mut piece) else {
-        return Progress::Unread;
-    };
-    if n == 0 {
-        return Progress::Ended(have);
-    }
-    feed_all(output, table, held, have, &piece[..n])
-}
-
-// A proved loop has to end, and nothing says that the input does. So the loop counts its turns down, from a number that no run uses up.
+// Reads until the log ends, and feeds what came. A proved loop has to end, and nothing says that the input does: so the reads are counted, up to a number
+// that no run reaches.
 fn read_all(
     input: &mut impl Read,
     output: &mut impl Write,
     table: &mut [u32],
-    held: &mut [u8; 8379],
-) -> Progress {
-    let mut turns = u64::MAX;
-    let mut have = 0;
-    while turns > 0 {
-        let progress = read_once(input, output, table, held, have);
-        let Progress::More(kept) = progress else {
-            return progress;
-        };
-        have = kept;
-        turns -= 1;
+    kept: &mut KeptLine,
+) -> Result<(), Failure> {
+    let mut piece = [0u8; 4096];
+    for _ in 0..u64::MAX {
+        let n = input.read(&mut piece).map_err(|_| Failure::Unread)?;
+        if n == 0 {
+            return Ok(());
+        }
+        feed_all(output, table, kept, &piece[..n])?;
     }
-    Progress::Unread
+    Err(Failure::Unread)
 }
 
-// Steps the last line where the log has ended. A read that failed is no end: what is kept of a line is not stepped.
-fn end_log(
-    output: &mut impl Write,
-    table: &mut [u32],
-    held: &[u8; 8379],
-    progress: Progress,
-) -> Progress {
-    let Progress::Ended(have) = progress else {
-        return progress;
-    };
+// Runs a log. Its last line is stepped where it has ended. A read that failed is no end: what is kept of a line is then not stepped.
+fn run_log(input: &mut impl Read, output: &mut impl Write) -> Result<(), Failure> {
+    let mut table = [0u32; table::TABLE_WORDS];
+    let _ = table::fresh(&mut table);
+    let mut kept = KeptLine::new();
+    read_all(input, output, &mut table, &mut kept)?;
     let mut out = [0u8; 2112];
-    let written = replay::last_line(table, held, have, &mut out);
-    if output.write_all(&out[..written]).is_err() {
-        return Progress::Unwritten;
-    }
-    progress
+    let written = replay::last_line(&mut table, &kept, &mut out);
+    output
+        .write_all(&out[..written])
+        .map_err(|_| Failure::Unwritten)
 }
 
 fn main(rt: HostRuntime) {
-    let mut table = [0u32; table::TABLE_WORDS];
-    table::fresh(&mut table);
-    let mut held = [0u8; 8379];
     let mut output = rt.stdout();
-    let read = read_all(&mut rt.stdin(), &mut output, &mut table, &mut held);
-    let progress = end_log(&mut output, &mut table, &held, read);
-    let said = match progress {
-        Progress::Unread => rt
-            .stderr()
-            .write_all(b"video_log: the log cannot be read to its end\n"),
-        Progress::Unwritten => rt
-            .stderr()
-            .write_all(b"video_log: the answers cannot be written\n"),
-        _ => Ok(()),
-    };
-    // Where even this cannot be said, there is nobody to tell.
-    let _ = said;
+    if let Err(failure) = run_log(&mut rt.stdin(), &mut output) {
+        // Where even this cannot be said, there is nobody to tell.
+        let _ = writeln!(rt.stderr(), "video_log: {failure}");
+    }
 }

@@ -1,13 +1,18 @@
--- `answer::put_buffer` meets its contract: the four calls' equations are joined by `sets_buffer`.
+-- `answer::put_buffer` meets its contract: four words, the timestamp and two words more, by `buffer_answer`.
 use mathlib.Core.List.{[], ◌∷◌}
-use Rattle.laws.proofs.Stores.{wrote_sets}
-use Rattle.model.specs.Answers.{buffer_done, bytes_of}
-use Rattle.answer.specs.Answer.{answer_to}
-use Rattle.answer.proofs.Laws.{buffer_length, sets_buffer}
+use Rattle.laws.proofs.Stores.{wrote_append, wrote_sets}
+use Rattle.field.specs.Field.{little_endian}
+use Rattle.field.proofs.Laws.{length_little_endian}
+use Rattle.model.specs.Answers.{word_bytes}
+use Rattle.answer.proofs.Laws.{wrote_words, buffer_answer}
 use Rattle.answer.proofs.put_buffer.Goals as goal
 
 pub returns : goal.returns
-returns c =
-    λ q. wrote_sets c.args.at 32 (bytes_of (answer_to c.args.ticket c.args.stream (buffer_done q c.args.timestamp c.args.flags) ∷ [])) (buffer_length c.args.ticket c.args.stream c.args.timestamp c.args.flags q)
-    (sets_buffer c.args.out.now c.args.at c.args.ticket c.args.stream c.args.timestamp c.args.flags q c.put_words.ensures
-    c.put_u64.ensures c.put_u32.ensures c.put_u32-2.ensures)
+returns c q =
+    let head = c.args.ticket ∷ 24 ∷ c.into.result ∷ c.args.stream ∷ [] in
+    let timestamp = little_endian 8 c.args.timestamp in
+    let rest = c.args.flags ∷ 0 ∷ [] in
+    rw (← (buffer_answer c.args.ticket c.args.stream c.args.timestamp c.args.flags q), ← c.into.ensures)
+    (wrote_append (word_bytes head) _ (wrote_words c.args.out.now head c.put_words-payload.ensures.next c.put_words-payload.ensures.whole)
+    (wrote_append timestamp (word_bytes rest) (wrote_sets c.put_words-payload.result 8 timestamp (length_little_endian 8 c.args.timestamp) c.put.ensures)
+    (wrote_words c.put.new.out rest c.put_words.ensures.next c.put_words.ensures.whole)))

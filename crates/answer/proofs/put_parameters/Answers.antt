@@ -1,28 +1,29 @@
--- `answer::put_parameters` meets its contract: four runs of words, by `sets_groups`, are the answer's bytes.
-use mathlib.Core.List.{[], ◌∷◌}
-use mathlib.Core.Path.{◌∙◌, refl, ap}
-use lib.Seq.{sets}
-use Rattle.laws.proofs.Stores.{wrote_sets}
+-- `answer::put_parameters` meets its contract: six runs of words are the answer's bytes, by `parameters_answer`.
+use mathlib.Core.List.{[], ◌∷◌, ◌++◌}
+use lib.ListN.{replicate}
 use Rattle.model.specs.Device.{queue_of}
-use Rattle.model.specs.Answers.{parameters, bytes_of}
-use Rattle.model.specs.Commands.{planes, parameter_words}
 use Rattle.protocol.specs.QueueTypes.{queue_type_of}
-use Rattle.answer.proofs.Laws.{sets_groups, parameters_length, parameters_answer}
-use Rattle.answer.specs.Answer.{answer_to}
+use Rattle.answer.proofs.Laws.{wrote_words, more_words, parameters_answer}
 use Rattle.answer.proofs.put_parameters.Goals as goal
 
--- src/lib.rt:55:1
-pub returns : goal.returns
-returns c =
-    let q = queue_type_of c.args.q in record {
-      next = refl;
-      whole = λ b s.
-          wrote_sets c.args.at 128 (bytes_of (answer_to c.args.ticket c.args.stream (parameters (parameter_words q b)) ∷ [])) (parameters_length c.args.ticket c.args.stream q b)
-          (sets_groups c.args.out.now c.args.at (c.args.ticket ∷ 120 ∷ 0x0203 ∷ c.args.stream ∷ [])
-          (c.queue_number-queue.result ∷ c.args.format ∷ c.args.width ∷ c.args.height ∷ [])
-          (1 ∷ 16 ∷ 0 ∷ 0 ∷ [])
-          (c.args.width ∷ c.args.height ∷ c.args.rate ∷ planes q (queue_of q b))
-          refl refl refl c.put_words.ensures c.put_words-2.ensures c.put_words-3.ensures
-          (c.put_planes.ensures (queue_of q b) s.is_width s.is_height)
-          ∙ ap (sets c.args.out.now c.args.at) (parameters_answer c.args.ticket c.args.stream q b c.queue_number-queue.ensures s));
-    }
+pub returns-clause-whole : goal.returns-clause-whole
+returns-clause-whole c b s =
+    let t = queue_type_of c.args.q in
+    let kept = c.args.kept in
+    let head = c.args.ticket ∷ 120 ∷ c.into.result ∷ c.args.stream ∷ [] in
+    let sizes = c.into-2.result ∷ kept.format ∷ kept.width ∷ kept.height ∷ [] in
+    let buffers = 1 ∷ 16 ∷ 0 ∷ 0 ∷ [] in
+    let crop = kept.width ∷ kept.height ∷ kept.rate ∷ [] in
+    let planes = c.planes_of-planes.result in
+    rw (← (parameters_answer c.args.ticket c.args.stream t b c.into-2.ensures s), ← (c.planes_of-planes.ensures (queue_of t b) s.is_width s.is_height), ← c.into.ensures)
+    (more_words (head ++ sizes ++ buffers ++ crop ++ planes) (replicate 12 0)
+    (more_words (head ++ sizes ++ buffers ++ crop) planes
+    (more_words (head ++ sizes ++ buffers) crop
+    (more_words (head ++ sizes) buffers
+    (more_words head sizes
+    (wrote_words c.args.out.now head c.put_words-next.ensures.next c.put_words-next.ensures.whole)
+    c.put_words-next-2.ensures.next c.put_words-next-2.ensures.whole)
+    c.put_words-next-3.ensures.next c.put_words-next-3.ensures.whole)
+    c.put_words-next-4.ensures.next c.put_words-next-4.ensures.whole)
+    c.put_words-next-5.ensures.next c.put_words-next-5.ensures.whole)
+    c.put_words.ensures.next c.put_words.ensures.whole)

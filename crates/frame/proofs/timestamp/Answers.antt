@@ -7,4 +7,4 @@ use Rattle.field.proofs.Laws.{field_part}
 use Rattle.frame.proofs.timestamp.Goals as goal
 
 pub returns : goal.returns
-returns c = c.read_u64.ensures ∙ field_part 8 c.args.frame.now 8 (length c.args.frame.now - 8) 8 (omega arith)
+returns c = c.read.ensures ∙ field_part 8 c.args.frame.now 8 (length c.args.frame.now - 8) 8 (omega arith)

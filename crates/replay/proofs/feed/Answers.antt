@@ -1,18 +1,15 @@
--- `replay::feed` meets its contract: no more is read of the room than it has.
-use mathlib.Core.Path.{ap}
-use mathlib.Core.List.{List}
-use Prim.Native.Nat.{ℕ}
-use Rattle.laws.proofs.Stores.{wrote_length}
+-- `replay::feed` meets its contract: a line that has not ended is kept, one that has is stepped.
 use Rattle.table.specs.Blocks.{layout}
-use Rattle.line.specs.Reading.{on_piece}
-use Rattle.line.specs.Split.{line_room}
-use Rattle.laws.proofs.Parts.{take_most}
-use Rattle.replay.proofs.Steps.{as_call, used_some}
-use borrow.Author.Rules.{rules}
+use Rattle.replay.proofs.Steps.{call_open, call_ended, used_some}
 use Rattle.replay.proofs.feed.Goals as goal
 
-pub returns : goal.returns
-returns c =
-    let did = as_call (ap (λ (l : List ℕ). on_piece layout (record { table = c.args.table.now; line = l }) c.args.piece.now)
-    (take_most c.args.have line_room c.args.held.now c.at_most.ensures (search rules))) c.feed.ensures.means in
-    record { fits = rw (wrote_length did.wrote) c.feed.ensures.fits.1; uses = used_some _ c.args.piece.now did; means = did }
+pub returns-in-Some-clause-uses : goal.returns-in-Some-clause-uses
+returns-in-Some-clause-uses c =
+    used_some _ c.args.piece.now (call_ended layout c.args.table.now c.args.kept.now c.args.piece.now c.gather.new.self c.args.out.now c.in-Some.ensures c.clear.ensures (rw c.bytes.ensures.value at c.log_line-written.ensures.means))
+
+pub returns-in-Some-clause-means : goal.returns-in-Some-clause-means
+returns-in-Some-clause-means c =
+    call_ended layout c.args.table.now c.args.kept.now c.args.piece.now c.gather.new.self c.args.out.now c.in-Some.ensures c.clear.ensures (rw c.bytes.ensures.value at c.log_line-written.ensures.means)
+
+pub returns-in-None-clause-means : goal.returns-in-None-clause-means
+returns-in-None-clause-means c = call_open layout c.args.table.now c.args.kept.now c.args.piece.now _ c.args.out.now c.in-None.ensures

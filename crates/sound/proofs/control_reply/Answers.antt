@@ -1,38 +1,15 @@
--- `sound::control_reply` meets its contract: each way out is the first of the tests that hits.
-use native.Mathlib.Omega.{arith}
-use Rattle.sound.proofs.Laws.{header_fails, good_header, out_of_turn, plain_turn, format_bytes, format_fails, format_turn}
+-- `sound::control_reply` meets its contract: the error of a set format's fields is the answer.
+use mathlib.Core.Path.{◌≡◌}
+use borrow.Author.Rules.{rules}
+use Rattle.std.specs.Prelude.{Some}
+use Rattle.pcm.specs.Lifecycle.{next_state}
+use Rattle.sound.specs.Meaning.{pcm_config_of, state_number, request_code}
+use Rattle.sound.proofs.Laws.{format_fails}
 use Rattle.sound.proofs.control_reply.Goals as goal
 
-pub returns-then-header-ne-STATUS_OK : goal.returns-then-header-ne-STATUS_OK
-returns-then-header-ne-STATUS_OK c =
-    header_fails _ _ _ c.header_status-header.ensures c.if-header-ne-STATUS_OK.true
-
-pub read_u32-code-requires : goal.read_u32-code-requires
-read_u32-code-requires c = omega (arith, (good_header c.args.message.now c.header_status-header.ensures c.if-header-ne-STATUS_OK.false).0)
-
-pub next_state-next-requires : goal.next_state-next-requires
-next_state-next-requires c =
-    let good = good_header c.args.message.now c.header_status-header.ensures c.if-header-ne-STATUS_OK.false in
-    (c.requires, omega (arith, c.read_u32-code.ensures, good.1))
-
-pub returns-then-next-eq-OUT_OF_ORDER : goal.returns-then-next-eq-OUT_OF_ORDER
-returns-then-next-eq-OUT_OF_ORDER c =
-    out_of_turn _ _ _ c.header_status-header.ensures c.if-header-ne-STATUS_OK.false c.read_u32-code.ensures c.next_state-next.ensures c.if-next-eq-OUT_OF_ORDER.true
-
-pub returns-then-code-ne-SET_FORMAT : goal.returns-then-code-ne-SET_FORMAT
-returns-then-code-ne-SET_FORMAT c =
-    plain_turn _ _ _ c.header_status-header.ensures c.if-header-ne-STATUS_OK.false c.read_u32-code.ensures c.next_state-next.ensures c.if-next-eq-OUT_OF_ORDER.false c.if-code-ne-SET_FORMAT.true
-
-pub format_status-format-requires : goal.format_status-format-requires
-format_status-format-requires c =
-    format_bytes _ c.header_status-header.ensures c.if-header-ne-STATUS_OK.false c.read_u32-code.ensures c.if-code-ne-SET_FORMAT.false
-
-pub returns-then-format-ne-STATUS_OK : goal.returns-then-format-ne-STATUS_OK
-returns-then-format-ne-STATUS_OK c =
-    format_fails _ _ _ c.header_status-header.ensures c.if-header-ne-STATUS_OK.false c.read_u32-code.ensures
-    c.next_state-next.ensures c.if-next-eq-OUT_OF_ORDER.false c.if-code-ne-SET_FORMAT.false c.format_status-format.ensures c.if-format-ne-STATUS_OK.true
-
-pub returns : goal.returns
-returns c =
-    format_turn _ _ _ c.header_status-header.ensures c.if-header-ne-STATUS_OK.false c.read_u32-code.ensures
-    c.next_state-next.ensures c.if-next-eq-OUT_OF_ORDER.false c.if-code-ne-SET_FORMAT.false c.format_status-format.ensures c.if-format-ne-STATUS_OK.false
+pub returns-in_err-check_format : goal.returns-in_err-check_format
+returns-in_err-check_format c =
+    let s = state_number c.args.stream in
+    let leads : Some (state_number c.in_ok-next.next) ≡ next_state s (request_code c.in_ok-request.request) = search rules in
+    let fails = format_fails (pcm_config_of c.args.config) s c.args.message.now c.in_ok-request.ensures.fails c.in_ok-request.ensures.code leads in
+    search (rules, fails)

@@ -1,22 +1,13 @@
 -- `sound::put_status` meets its contract: the status, and behind it the zeros where the channel map was asked for.
-use Prim.Native.Nat.{◌<◌, ◌≤◌}
-use borrow.Author.Tests.{lt-leb, le-leb, eq-eqb, ne_eqb}
-use Rattle.pcm.specs.Numbers.{pcm_header}
+use mathlib.Core.Path.{sym, ◌∙◌}
+use borrow.Author.Rules.{rules}
+use Rattle.laws.specs.Parts.{zeros}
 use Rattle.sound.proofs.Laws.{wrote_status, wrote_map}
 use Rattle.sound.proofs.put_status.Goals as goal
 
-pub returns-then-message-lt-PCM_HEADER : goal.returns-then-message-lt-PCM_HEADER
-returns-then-message-lt-PCM_HEADER c =
-    let short : _ < pcm_header = c.if-message-lt-PCM_HEADER.true in
-    wrote_status _ _ (rw (lt-leb _ _ short)) c.put_u32.ensures
+pub returns-then-not-asks_map-clause-wrote : goal.returns-then-not-asks_map-clause-wrote
+returns-then-not-asks_map-clause-wrote c = wrote_status _ _ (sym c.asks_map.ensures ∙ c.if-not-asks_map.true) c.put.ensures
 
-pub returns-then-read_u32-ne-CHMAP_INFO : goal.returns-then-read_u32-ne-CHMAP_INFO
-returns-then-read_u32-ne-CHMAP_INFO c =
-    let long : pcm_header ≤ _ = c.if-message-lt-PCM_HEADER.false in
-    wrote_status _ _ (rw (le-leb _ _ long, ← c.read_u32.ensures, ne_eqb _ _ c.if-read_u32-ne-CHMAP_INFO.true)) c.put_u32.ensures
-
-pub returns : goal.returns
-returns c =
-    let long : pcm_header ≤ _ = c.if-message-lt-PCM_HEADER.false in
-    wrote_map {d = c.args.answer.now} c.args.message.now c.args.status (rw (le-leb _ _ long, ← c.read_u32.ensures, eq-eqb _ _ c.if-read_u32-ne-CHMAP_INFO.false))
-    c.requires c.put_u32.ensures c.put_zeros.ensures
+pub returns-clause-wrote : goal.returns-clause-wrote
+unfolding zeros
+returns-clause-wrote c = wrote_map {d = c.args.answer.now} c.args.message.now c.args.status (sym c.asks_map.ensures ∙ c.if-not-asks_map.false) c.requires c.put.ensures (search rules)

@@ -1,9 +1,8 @@
 -- `completion::ended_answer` meets its contract: by whether the step ends the drain, and whether one is pending.
-use mathlib.Core.Path.{sym, ap, ◌∙◌}
+use mathlib.Core.Path.{sym, ◌∙◌}
 use mathlib.Core.Bool.{true, false}
 use native.Mathlib.Omega.{arith}
 use Rattle.laws.proofs.Stores.{wrote_none}
-use Rattle.table.specs.Values.{drain_of}
 use Rattle.completion.proofs.Ends.{plain_next, wrote_drain, wrote_ended, wrote_no_drain}
 use Rattle.completion.proofs.drains.ended_answer.Goals as goal
 
@@ -16,7 +15,7 @@ returns-in_default c =
     record {
       bound = omega arith;
       written = λ n b h. wrote_ended c.args.stream true c.args.ends b (sym c.if-not-ends.false)
-          (wrote_no_drain _ _ _ _ (ap drain_of (sym c.in_default.is) ∙ c.pending_drain-drain.ensures n b h.held));
+          (wrote_no_drain _ _ _ _ (sym c.in_default.is ∙ c.pending_drain.ensures n b h.held));
     }
 
 pub returns : goal.returns
@@ -24,5 +23,5 @@ returns c =
     record {
       bound = omega (arith, plain_next _ _ _ c.put_plain.ensures);
       written = λ n b h. wrote_ended c.args.stream true c.args.ends b (sym c.if-not-ends.false)
-          (wrote_drain _ _ b.draining (ap drain_of (sym c.in-Draining.is) ∙ c.pending_drain-drain.ensures n b h.held) c.put_plain.ensures);
+          (wrote_drain _ _ b.draining (sym c.in-Some.is ∙ c.pending_drain.ensures n b h.held) c.put_plain.ensures);
     }

@@ -9,6 +9,6 @@ pub returns : goal.returns
 returns c b m h found waits eos early =
     let q = queue_type_of c.args.queue in
     answered_done _ _
-    (finish_taken c.args.stream m c.args.flags c.args.timestamp b q c.args.k (slots_distinct h q) found waits eos early)
-    (c.finish_words.ensures c.args.stream b m h found)
-    (c.finish_answers-written.ensures.written c.args.stream b _ h refl refl)
+    (finish_taken c.args.report.stream m c.args.report.flags c.args.report.timestamp b q c.args.k (slots_distinct h q) found waits eos early)
+    (c.finish_words.ensures c.args.report.stream b m h found)
+    (c.finish_answers-written.ensures.written c.args.report.stream b _ h refl refl)

@@ -23,8 +23,8 @@ returns c =
       written = λ n b i h p u.
           let q = queue_type_of c.args.queue in
           let at = queue_words_lem h q _ c.queue_start-at.ensures.start in
-          wrote_more (answer_to i.ticket c.args.stream (buffer_done q (timestamp_of q i c.args.timestamp) c.args.flags) ∷ []) (drain_answers c.args.stream (drain_ended (has_eos c.args.flags) b))
-          (wrote_buffer c.args.stream c.args.flags q (c.slot_ticket-ticket.ensures (queue_of q b) at ∙ sym p)
+          wrote_more (answer_to i.ticket c.args.report.stream (buffer_done q (timestamp_of q i c.args.report.timestamp) c.args.report.flags) ∷ []) (drain_answers c.args.report.stream (drain_ended (has_eos c.args.report.flags) b))
+          (wrote_buffer c.args.report.stream c.args.report.flags q (c.slot_ticket-ticket.ensures (queue_of q b) at ∙ sym p)
           (c.timestamp_in-told.ensures (queue_of q b) i at u) (c.put_buffer-next.ensures q))
-          (wrote_ended c.args.stream _ (has_eos c.args.flags) b c.has_eos-ends.ensures (c.ended_answer.ensures.written n b h));
+          (wrote_ended c.args.report.stream _ (has_eos c.args.report.flags) b c.has_eos-ends.ensures (c.ended_answer.ensures.written n b h));
     }

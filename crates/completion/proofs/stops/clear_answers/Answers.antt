@@ -13,8 +13,8 @@ use Rattle.completion.proofs.stops.clear_answers.Goals as goal
 pub returns : goal.returns
 returns c n b h =
     let q = queue_type_of c.args.queue in
-    let ended = drain_answers c.args.stream (drain_ended (is_input q) b) in
-    let itself = answer_to c.args.ticket c.args.stream success ∷ [] in
-    wrote_more (stopped_answers c.args.stream q (buffers q b)) (ended ++ itself) (c.stop_queue-stopped.ensures.written n b h)
+    let ended = drain_answers c.args.asked.stream (drain_ended (is_input q) b) in
+    let itself = answer_to c.args.asked.ticket c.args.asked.stream success ∷ [] in
+    wrote_more (stopped_answers c.args.asked.stream q (buffers q b)) (ended ++ itself) (c.stop_queue-stopped.ensures.written n b h)
     (wrote_more ended itself
-    (wrote_ended c.args.stream _ (is_input q) b c.is_input-ends.ensures (c.ended_answer-ended.ensures.written n b h)) (wrote_plain c.args.ticket c.args.stream success refl c.put_plain.ensures))
+    (wrote_ended c.args.asked.stream _ (is_input q) b c.is_input-ends.ensures (c.ended_answer-ended.ensures.written n b h)) (wrote_plain c.args.asked.ticket c.args.asked.stream success refl c.put_plain.ensures))

@@ -11,9 +11,9 @@ use Rattle.completion.proofs.stops.destroy_answers.Goals as goal
 
 pub returns : goal.returns
 returns c n b h =
-    let outputs = stopped_answers c.args.stream output (buffers output b) in
-    let drain = drain_answers c.args.stream b.draining in
-    let itself = answer_to c.args.ticket c.args.stream success ∷ [] in
-    wrote_more (stopped_answers c.args.stream input (buffers input b)) (outputs ++ (drain ++ itself)) (c.stop_queue-inputs.ensures.written n b h)
+    let outputs = stopped_answers c.args.asked.stream output (buffers output b) in
+    let drain = drain_answers c.args.asked.stream b.draining in
+    let itself = answer_to c.args.asked.ticket c.args.asked.stream success ∷ [] in
+    wrote_more (stopped_answers c.args.asked.stream input (buffers input b)) (outputs ++ (drain ++ itself)) (c.stop_queue-inputs.ensures.written n b h)
     (wrote_more outputs (drain ++ itself) (c.stop_queue-outputs.ensures.written n b h)
-    (wrote_more drain itself (c.ended_answer-drain.ensures.written n b h) (wrote_plain c.args.ticket c.args.stream success refl c.put_plain.ensures)))
+    (wrote_more drain itself (c.ended_answer-drain.ensures.written n b h) (wrote_plain c.args.asked.ticket c.args.asked.stream success refl c.put_plain.ensures)))

@@ -1,7 +1,7 @@
 -- `completion::stop_answers` meets its contract. The invariant: the buffers below `least` are answered, one for each turn; after sixteen turns none is left.
 use mathlib.Core.Path.{◌≡◌}
 use mathlib.Core.Bool.{true}
-use Prim.Native.Nat.{◌+◌, ◌*◌, ◌-◌, ◌≤◌}
+use Prim.Native.Nat.{◌+◌, ◌*◌}
 use lib.ListN.{length}
 use Rattle.model.specs.Device.{QueueType, Queue}
 use Rattle.model.specs.WellFormed.{distinct_slots}
@@ -11,8 +11,5 @@ use Rattle.completion.proofs.stops.stop_answers.Given as goal
 
 abbrev pub invariant-loop-turn : goal.invariant-loop-turn
 invariant-loop-turn l =
-    (l.turn ≤ 16) × (l.next ≡ l.at + 32 * l.turn) × (length l.room ≡ length l.initial.room)
-    × ((Q : Queue) (t : QueueType) → distinct_slots Q.slots ≡ true → l.q ≡ queue_words Q → Along l.stream t Q.slots l.initial.room l.room l.at l.next l.least l.turn)
-
-abbrev pub decreases-loop-turn : goal.decreases-loop-turn
-decreases-loop-turn l = 16 - l.turn
+    (l.next ≡ l.at + 32 * l._turn) × (length l.room ≡ length l.initial.room)
+    × ((Q : Queue) (t : QueueType) → distinct_slots Q.slots ≡ true → l.q ≡ queue_words Q → Along l.stream t Q.slots l.initial.room l.room l.at l.next l.least l._turn)

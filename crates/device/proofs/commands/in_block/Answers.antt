@@ -7,13 +7,12 @@ use lib.ListN.{length}
 use borrow.Author.Rules.{rules}
 use Rattle.model.specs.Device.{Stream}
 use Rattle.model.specs.Frames.{QueueCommand, create_resource, queue_resource, destroy_all, clear, get_parameters, set_parameters, live}
-use Rattle.model.specs.Answers.{unsupported_control}
 use Rattle.model.specs.Commands.{on_live}
 use Rattle.frame.specs.declared.commands.LiveCommand.{LiveCommand}
 use Rattle.frame.specs.Meant.{queue_command_of, live_command_of, queue_length, least_length}
 use Rattle.stream.specs.Replied.{request_to}
 use Rattle.stream.proofs.Steps.{failed}
-use Rattle.device.proofs.Served.{replied_as}
+use Rattle.device.proofs.Served.{replied_as, tried_as}
 use Rattle.device.proofs.commands.in_block.Goals as goal
 
 meant_by : (n t : ℕ) (f : List ℕ) (b : Stream) {x k : LiveCommand} → x ≡ k → on_live (live_command_of x) (request_to n t f b) b ≡ on_live (live_command_of k) (request_to n t f b) b
@@ -35,16 +34,16 @@ to_queue-requires c =
 
 pub returns-in-Destroy : goal.returns-in-Destroy
 returns-in-Destroy c b h =
-    replied_as (meant_by c.args.stream c.args.ticket c.args.frame.now b c.in-Destroy.is) (c.destroy.ensures _ b h)
+    replied_as (meant_by c.args.asked.stream c.args.asked.ticket c.args.frame.now b c.in-Destroy.is) (c.destroy.ensures _ b h)
 
 pub returns-in-Drain : goal.returns-in-Drain
 returns-in-Drain c b h =
-    replied_as (meant_by c.args.stream c.args.ticket c.args.frame.now b c.in-Drain.is) (c.drain.ensures _ b h)
+    tried_as _ _ _ _ _ _ (meant_by c.args.asked.stream c.args.asked.ticket c.args.frame.now b c.in-Drain.is) (c.drain.ensures c.args.room.now _ b h)
 
 pub returns-in-Control : goal.returns-in-Control
 returns-in-Control c b h =
-    failed c.args.ticket unsupported_control h (meant_by c.args.stream c.args.ticket c.args.frame.now b c.in-Control.is) c.put_plain.ensures
+    failed _ (meant_by c.args.asked.stream c.args.asked.ticket c.args.frame.now b c.in-Control.is)
 
 pub returns-in-ToQueue : goal.returns-in-ToQueue
 returns-in-ToQueue c b h =
-    replied_as (meant_by c.args.stream c.args.ticket c.args.frame.now b c.in-ToQueue.is) (c.to_queue.ensures b h)
+    tried_as _ _ _ _ _ _ (meant_by c.args.asked.stream c.args.asked.ticket c.args.frame.now b c.in-ToQueue.is) (c.to_queue.ensures b h)

@@ -1,4 +1,5 @@
 -- `device::reports::finish` meets its contract: flags, then the stream, then its block.
+use mathlib.Core.Path.{refl}
 use native.Mathlib.Omega.{arith}
 use Rattle.model.specs.Steps.{finish, around, serve}
 use Rattle.device.proofs.Reported.{bad_flags, no_stream}
@@ -7,35 +8,35 @@ use Rattle.device.proofs.Served.{denied, in_block, was_found, was_missing}
 use borrow.Author.Rules.{rules}
 use Rattle.device.proofs.reports.finish.Goals as goal
 
-pub returns-then-flags-gt-ALL_FLAGS : goal.returns-then-flags-gt-ALL_FLAGS
-returns-then-flags-gt-ALL_FLAGS c d h =
-    denied h _ c.args.stream _ 6 c.refused.ensures (bad_flags (around d c.args.stream) c.args.stream c.args.queue c.args.resource c.args.flags c.args.timestamp _ c.if-flags-gt-ALL_FLAGS.true)
+pub returns-then-report-gt-ALL_FLAGS : goal.returns-then-report-gt-ALL_FLAGS
+returns-then-report-gt-ALL_FLAGS c d h =
+    denied h _ c.args.report.stream _ 6 (refl, refl) (bad_flags (around d c.args.report.stream) c.args.report.stream c.args.report.queue c.args.report.resource c.args.report.flags c.args.report.timestamp _ c.if-report-gt-ALL_FLAGS.true)
 
 pub returns-in_default : goal.returns-in_default
 returns-in_default c d h =
-    denied h _ c.args.stream _ 5 c.refused-in_default.ensures
-    (no_stream (around d c.args.stream) c.args.stream c.args.queue c.args.resource c.args.flags c.args.timestamp _ c.if-flags-gt-ALL_FLAGS.false
-    (was_missing h _ c.live_place-found.ensures.found c.in_default.is))
+    denied h _ c.args.report.stream _ 5 (refl, refl)
+    (no_stream (around d c.args.report.stream) c.args.report.stream c.args.report.queue c.args.report.resource c.args.report.flags c.args.report.timestamp _ c.if-report-gt-ALL_FLAGS.false
+    (was_missing h _ c.live_place.ensures.found c.in_default.is))
 
 pub overflow_mul-at : goal.overflow_mul-at
-overflow_mul-at c = omega (arith, found_within 8 c.in-At.is c.live_place-found.ensures.within)
+overflow_mul-at c = omega (arith, found_within 8 c.in-Some.is c.live_place.ensures.within)
 
 pub overflow_add-at : goal.overflow_add-at
-overflow_add-at c = omega (arith, found_within 8 c.in-At.is c.live_place-found.ensures.within)
+overflow_add-at c = omega (arith, found_within 8 c.in-Some.is c.live_place.ensures.within)
 
 pub offset_bounds-t-at : goal.offset_bounds-t-at
-offset_bounds-t-at c = omega (arith, found_within 8 c.in-At.is c.live_place-found.ensures.within)
+offset_bounds-t-at c = omega (arith, found_within 8 c.in-Some.is c.live_place.ensures.within)
 
 pub slice_bounds-finish-end : goal.slice_bounds-finish-end
-slice_bounds-finish-end c = omega (arith, found_within 8 c.in-At.is c.live_place-found.ensures.within)
+slice_bounds-finish-end c = omega (arith, found_within 8 c.in-Some.is c.live_place.ensures.within)
 
 pub settle-requires : goal.settle-requires
 settle-requires c =
-    (search rules, found_within 8 c.in-At.is c.live_place-found.ensures.within)
+    (search rules, found_within 8 c.in-Some.is c.live_place.ensures.within)
 
 pub returns : goal.returns
 unfolding serve
 returns c d h =
-    in_block h c.args.stream _ (found_within 8 c.in-At.is c.live_place-found.ensures.within) (was_found h _ c.live_place-found.ensures.found _ c.in-At.is)
-    (finish c.args.stream c.args.queue c.args.resource c.args.flags c.args.timestamp)
+    in_block h c.args.report.stream _ (found_within 8 c.in-Some.is c.live_place.ensures.within) (was_found h _ c.live_place.ensures.found _ c.in-Some.is)
+    (finish c.args.report.stream c.args.report.queue c.args.report.resource c.args.report.flags c.args.report.timestamp)
     c.finish-outcome.ensures c.settle.ensures

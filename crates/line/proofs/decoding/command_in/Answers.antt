@@ -24,5 +24,5 @@ unhex-requires-2 c =
 pub returns : goal.returns
 returns c =
     let read = command_read c.args.line.now c.args.frame.now c.requires.1 (omega arith) c.requires.2 _ _ _ _ refl
-    c.unhex.ensures c.read_u32.ensures c.unhex-2.ensures in
+    c.unhex.ensures c.read.ensures c.unhex-2.ensures in
     record { fits = omega arith; means = read.0; stored = read.1 }

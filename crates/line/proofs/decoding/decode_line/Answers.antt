@@ -13,40 +13,25 @@ returns-then-not-is_hex c = let rest = line_as c.args.line.now c.args.frame.now 
 pub returns-then-line-lt-SHORTEST : goal.returns-then-line-lt-SHORTEST
 returns-then-line-lt-SHORTEST c = let rest = line_as c.args.line.now c.args.frame.now _ no_frame no_frame (line_short c.args.line.now (sym c.is_hex.ensures ∙ c.if-not-is_hex.false) c.if-line-lt-SHORTEST.true) refl refl in record { fits = omega arith; means = rest.0; stored = rest.1 }
 
-pub byte_at-kind-requires : goal.byte_at-kind-requires
-byte_at-kind-requires c = (sym c.is_hex.ensures ∙ c.if-not-is_hex.false, omega arith)
-
-pub command_in-requires : goal.command_in-requires
-command_in-requires c = (sym c.is_hex.ensures ∙ c.if-not-is_hex.false, omega arith, omega arith)
-
-pub finish_in-requires : goal.finish_in-requires
-finish_in-requires c =
-    sym c.is_hex.ensures ∙ c.if-not-is_hex.false
-
-pub drained_in-requires : goal.drained_in-requires
-drained_in-requires c =
-    sym c.is_hex.ensures ∙ c.if-not-is_hex.false
-
 pub returns-in-0 : goal.returns-in-0
 returns-in-0 c =
     let rest = line_as c.args.line.now c.args.frame.now _ _ (command_in (hex_bytes c.args.line.now))
     (line_hex c.args.line.now (sym c.is_hex.ensures ∙ c.if-not-is_hex.false) ∙ kind_command (hex_bytes c.args.line.now)
-    (sym c.byte_at-kind.ensures ∙ c.in-0.is)) c.command_in.ensures.means c.command_in.ensures.stored in record { fits = c.command_in.ensures.fits; means = rest.0; stored = rest.1 }
+    (sym c.byte_at.ensures ∙ c.in-0.is)) c.command_in.ensures.means c.command_in.ensures.stored in record { fits = c.command_in.ensures.fits; means = rest.0; stored = rest.1 }
 
 pub returns-in-1 : goal.returns-in-1
 returns-in-1 c =
     let rest = line_as c.args.line.now c.args.frame.now _ _ (finish_in (hex_bytes c.args.line.now))
     (line_hex c.args.line.now (sym c.is_hex.ensures ∙ c.if-not-is_hex.false) ∙ kind_finish (hex_bytes c.args.line.now)
-    (sym c.byte_at-kind.ensures ∙ c.in-1.is)) (c.finish_in.ensures.means _) (ap (sets c.args.frame.now 0) (sym (finish_bytes (hex_bytes c.args.line.now)))) in record { fits = c.finish_in.ensures.fits; means = rest.0; stored = rest.1 }
+    (sym c.byte_at.ensures ∙ c.in-1.is)) (c.finish_in.ensures.means _) (ap (sets c.args.frame.now 0) (sym (finish_bytes (hex_bytes c.args.line.now)))) in record { fits = c.finish_in.ensures.fits; means = rest.0; stored = rest.1 }
 
 pub returns-in-2 : goal.returns-in-2
 returns-in-2 c =
     let rest = line_as c.args.line.now c.args.frame.now _ _ (drained_in (hex_bytes c.args.line.now))
     (line_hex c.args.line.now (sym c.is_hex.ensures ∙ c.if-not-is_hex.false) ∙ kind_drained (hex_bytes c.args.line.now)
-    (sym c.byte_at-kind.ensures ∙ c.in-2.is)) (c.drained_in.ensures.means _) (ap (sets c.args.frame.now 0) (sym (drained_bytes (hex_bytes c.args.line.now)))) in record { fits = c.drained_in.ensures.fits; means = rest.0; stored = rest.1 }
+    (sym c.byte_at.ensures ∙ c.in-2.is)) (c.drained_in.ensures.means _) (ap (sets c.args.frame.now 0) (sym (drained_bytes (hex_bytes c.args.line.now)))) in record { fits = c.drained_in.ensures.fits; means = rest.0; stored = rest.1 }
 
 pub returns-in_default : goal.returns-in_default
 returns-in_default c =
     let rest = line_as c.args.line.now c.args.frame.now _ no_frame no_frame
-    (line_hex c.args.line.now (sym c.is_hex.ensures ∙ c.if-not-is_hex.false) ∙ kind_other (hex_bytes c.args.line.now) (λ e. c.in_default.in_default-own.rest.0.0.1 (c.byte_at-kind.ensures ∙ e))
-    (λ e. c.in_default.in_default-own.rest.0.1 (c.byte_at-kind.ensures ∙ e)) (λ e. c.in_default.in_default-own.rest.1 (c.byte_at-kind.ensures ∙ e))) refl refl in record { fits = omega arith; means = rest.0; stored = rest.1 }
+    (line_hex c.args.line.now (sym c.is_hex.ensures ∙ c.if-not-is_hex.false) ∙ kind_other (hex_bytes c.args.line.now) (λ e. omega (arith, c.in_default, e)) (λ e. omega (arith, c.in_default, e)) (λ e. omega (arith, c.in_default, e))) refl refl in record { fits = omega arith; means = rest.0; stored = rest.1 }

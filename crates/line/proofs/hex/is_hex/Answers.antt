@@ -1,26 +1,17 @@
--- `line::hex::is_hex` meets its contract: what is left of the line has the answer of the whole.
-use mathlib.Core.Path.{refl, sym, ◌∙◌}
-use native.Mathlib.Omega.{arith}
-use Rattle.line.proofs.Digits.{left_none, left_one, left_low, left_high, left_more}
+-- `line::hex::is_hex` meets its contract: the parity, and the test of each byte.
+use mathlib.Core.Path.{◌∙◌}
+use borrow.Author.Tests.{tests, ne_eqb}
+use borrow.Author.Rules.{rules}
+use Rattle.std.specs.Char.{is_ascii_hexdigit}
+use Rattle.std.proofs.lemmas.Iterator.{YieldsList-from_slice}
+use Rattle.std.proofs.lemmas.Iterator.Search.{all_from_yields_List}
+use Rattle.line.proofs.Digits.{hex_by_digits, hex_odd}
 use Rattle.line.proofs.hex.is_hex.Goals as goal
 
-pub loop-i-init : goal.loop-i-init
-loop-i-init c = (omega arith, refl)
+pub returns-then-line-eq0 : goal.returns-then-line-eq0
+returns-then-line-eq0 c =
+    all_from_yields_List is_ascii_hexdigit _ _ _ c.all.ensures.ran (YieldsList-from_slice c.args.line.now cc) (λ x b q k. search (rules, tests))
+    ∙ hex_by_digits c.args.line.now c.if-line-eq0.true
 
-pub returns-then-line-i-eq1 : goal.returns-then-line-i-eq1
-returns-then-line-i-eq1 c = sym (left_one c.args.line.now c.loop-i.i (omega arith)) ∙ c.loop-i.invariant.1
-
-pub returns-then-digit-ge16 : goal.returns-then-digit-ge16
-returns-then-digit-ge16 c =
-    sym (left_low c.args.line.now c.loop-i.i (omega arith) (omega arith)) ∙ c.loop-i.invariant.1
-
-pub returns-then-digit-ge16-2 : goal.returns-then-digit-ge16-2
-returns-then-digit-ge16-2 c =
-    sym (left_high c.args.line.now c.loop-i.i (omega arith) (omega arith)) ∙ c.loop-i.invariant.1
-
-pub loop-i-preserved : goal.loop-i-preserved
-loop-i-preserved c =
-    (omega arith, sym (left_more c.args.line.now c.loop-i.i (omega arith) (omega arith) (omega arith)) ∙ c.loop-i.invariant.1)
-
-pub returns : goal.returns
-returns c = sym (left_none c.args.line.now c.loop-i.i (omega arith)) ∙ c.loop-i.invariant.1
+pub returns-else-line-eq0 : goal.returns-else-line-eq0
+returns-else-line-eq0 c = ne_eqb _ 0 c.if-line-eq0.false ∙ hex_odd c.args.line.now c.if-line-eq0.false

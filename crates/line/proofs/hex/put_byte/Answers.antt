@@ -1,12 +1,7 @@
 -- `line::hex::put_byte` meets its contract: the two stores are the pair.
 use native.Mathlib.Numerals.{add-one}
-use native.Mathlib.Omega.{arith}
-use lib.ListN.{length-set}
 use Rattle.line.specs.Hex.{hex_pair}
 use Rattle.line.proofs.hex.put_byte.Goals as goal
-
-pub bounds-out-at-2 : goal.bounds-out-at-2
-bounds-out-at-2 c = simp length-set (omega arith)
 
 pub returns : goal.returns
 unfolding hex_pair

@@ -13,15 +13,13 @@ use Rattle.line.proofs.hex.put_hex.Goals as goal
 
 pub loop-i-init : goal.loop-i-init
 unfolding pieces
-loop-i-init c = (omega arith, omega arith, refl, refl)
+loop-i-init c = (refl, refl)
 
 pub loop-i-preserved : goal.loop-i-preserved
 loop-i-preserved c = (
   omega arith,
-  omega arith,
-  omega arith,
   c.put_byte.ensures
-      ∙ rw (c.loop-i.invariant.3, c.loop-i.invariant.1, pieces_more hex_pair c.args.bytes.now c.loop-i.i 0 (omega arith))
+      ∙ rw (c.loop-i.invariant.1, pieces_more hex_pair c.args.bytes.now c.loop-i.i 0 (omega arith))
       (sets_next c.args.out.now c.args.at (2 * c.loop-i.i) (hex_text (take c.loop-i.i c.args.bytes.now)) (hex_pair (get_or c.args.bytes.now c.loop-i.i 0))
       (length_text (take c.loop-i.i c.args.bytes.now) ∙ ap (λ n. 2 * n) (length-take-le c.loop-i.i c.args.bytes.now (omega arith)))),
 )
@@ -29,5 +27,5 @@ loop-i-preserved c = (
 pub returns : goal.returns
 returns c = record {
   next = omega (arith, length_text c.args.bytes.now);
-  whole = c.loop-i.invariant.3 ∙ ap (λ t. sets c.args.out.now c.args.at (hex_text t)) (take_all c.loop-i.i c.args.bytes.now (omega arith));
+  whole = c.loop-i.invariant.1 ∙ ap (λ t. sets c.args.out.now c.args.at (hex_text t)) (take_all c.loop-i.i c.args.bytes.now (omega arith));
 }

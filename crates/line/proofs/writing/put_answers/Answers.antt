@@ -1,50 +1,29 @@
--- `line::writing::put_answers` meets its contract: the lines of the answers so far are written, and those from `i` on are whole; a turn is `rendered_more`.
-use mathlib.Core.Path.{refl}
-use Prim.Native.Nat.{◌<◌}
+-- `line::writing::put_answers` meets its contract: the lines of the answers so far are written, and those in `rest` are whole; a turn is `rendered_more`.
+use mathlib.Core.Path.{refl, ◌∙◌}
 use native.Mathlib.Omega.{arith}
-use lib.ListN.{length}
-use Rattle.line.proofs.Written.{rendered_none, rendered_all, next_fits, next_here, next_length, rendered_more, next_short, at_i}
+use Rattle.line.proofs.Written.{rendered_all, some_to_come, none_to_come, next_answer, next_fits, next_here, rendered_more, next_short}
 use Rattle.line.proofs.writing.put_answers.Goals as goal
 
-pub loop-i-init : goal.loop-i-init
-loop-i-init c = (omega arith, refl, omega arith, rendered_none c.args.answers.now c.args.out.now c.requires.0)
+pub read-requires : goal.read-requires
+read-requires c =
+    let inside = some_to_come c.loop-rest.rest.now c.is_empty.ensures c.loop-rest-test.true in
+    omega (arith, next_fits c.loop-rest.rest.now _ inside c.loop-rest.invariant.2.whole refl)
 
-pub overflow_add-next : goal.overflow_add-next
-overflow_add-next c = omega (arith, next_fits c.args.answers.now c.loop-i.i _ (omega arith) c.loop-i.invariant.3.whole refl)
+pub split_at-requires : goal.split_at-requires
+split_at-requires c =
+    let inside = some_to_come c.loop-rest.rest.now c.is_empty.ensures c.loop-rest-test.true in
+    next_fits c.loop-rest.rest.now c.read.result inside c.loop-rest.invariant.2.whole c.read.ensures
 
-pub overflow_add-i : goal.overflow_add-i
-overflow_add-i c = omega (arith, next_fits c.args.answers.now c.loop-i.i _ (omega arith) c.loop-i.invariant.3.whole refl)
-
-pub read_u32-requires : goal.read_u32-requires
-read_u32-requires c = omega (arith, next_fits c.args.answers.now c.loop-i.i _ (omega arith) c.loop-i.invariant.3.whole refl)
-
-pub overflow_cast-next : goal.overflow_cast-next
-overflow_cast-next c = omega (arith, next_fits c.args.answers.now c.loop-i.i _ (omega arith) c.loop-i.invariant.3.whole c.read_u32.ensures)
-
-pub overflow_add-next-in-loop-i : goal.overflow_add-next-in-loop-i
-overflow_add-next-in-loop-i c = omega (arith, next_fits c.args.answers.now c.loop-i.i _ (omega arith) c.loop-i.invariant.3.whole c.read_u32.ensures)
-
-pub slice_bounds-put_answer-end : goal.slice_bounds-put_answer-end
-slice_bounds-put_answer-end c = next_fits c.args.answers.now c.loop-i.i _ (omega arith) c.loop-i.invariant.3.whole c.read_u32.ensures
-
-pub put_answer-end-requires : goal.put_answer-end-requires
-put_answer-end-requires c =
-    let part = next_length c.args.answers.now c.loop-i.i _ (omega arith) c.loop-i.invariant.3.whole c.read_u32.ensures _ refl in
-    (omega (arith, part), omega (arith, part, next_fits c.args.answers.now c.loop-i.i _ (omega arith) c.loop-i.invariant.3.whole c.read_u32.ensures))
-
-pub loop-i-smaller : goal.loop-i-smaller
-loop-i-smaller c =
-    omega (arith, next_fits c.args.answers.now c.loop-i.i _ (omega arith) c.loop-i.invariant.3.whole c.read_u32.ensures)
-
-pub loop-i-preserved : goal.loop-i-preserved
-loop-i-preserved c =
-    let inside : c.loop-i.i < length c.args.answers.now = omega arith in
-    let wrote = c.put_answer-end.ensures (at_i c.args.answers.now c.loop-i.i c.read_u32.result inside c.loop-i.invariant.3.whole c.read_u32.ensures).answer (next_here c.args.answers.now c.loop-i.i c.read_u32.result inside c.loop-i.invariant.3.whole c.read_u32.ensures _ refl) in (
-      next_fits c.args.answers.now c.loop-i.i c.read_u32.result inside c.loop-i.invariant.3.whole c.read_u32.ensures,
+pub loop-rest-preserved : goal.loop-rest-preserved
+loop-rest-preserved c =
+    let inside = some_to_come c.loop-rest.rest.now c.is_empty.ensures c.loop-rest-test.true in
+    let whole = c.loop-rest.invariant.2.whole in
+    let count = c.read.ensures in
+    let wrote = c.put_answer-end.ensures (next_answer c.loop-rest.rest.now c.read.result inside whole count).answer (c.split_at.ensures.front ∙ next_here c.loop-rest.rest.now c.read.result inside whole count) in (
       omega arith,
-      next_short c.args.answers.now c.loop-i.i c.read_u32.result inside c.loop-i.invariant.3.whole c.read_u32.ensures c.loop-i.invariant.2 wrote,
-      rendered_more c.args.answers.now c.loop-i.i c.read_u32.result inside c.loop-i.invariant.3.whole c.read_u32.ensures c.loop-i.invariant.3 wrote,
+      rw c.split_at.ensures.back (next_short c.loop-rest.rest.now c.read.result inside whole count c.loop-rest.invariant.1 wrote),
+      rw c.split_at.ensures.back (rendered_more c.loop-rest.rest.now c.read.result inside whole count c.loop-rest.invariant.2 wrote),
     )
 
-pub returns : goal.returns
-returns c = record { bound = omega (arith, c.loop-i.invariant.0, c.loop-i.invariant.2); wrote = rendered_all c.args.answers.now _ _ _ c.loop-i.i (omega arith) c.loop-i.invariant.3 }
+pub returns-clause-wrote : goal.returns-clause-wrote
+returns-clause-wrote c = rendered_all (none_to_come c.loop-rest.rest.now c.is_empty.ensures c.loop-rest-test.false) c.loop-rest.invariant.2

@@ -12,19 +12,18 @@ use Rattle.queue.proofs.Each.{up_to, up_none, up_more, up_all, free_each}
 use Rattle.queue.proofs.changes.free_all.Goals as goal
 
 pub loop-k-init : goal.loop-k-init
-loop-k-init c = (search rules, c.requires, λ Q e. e ∙ ap (λ (s : List Slot). queue_words (with_slots s Q)) (sym (up_none (λ x. free) Q.slots)))
+loop-k-init c = (c.requires, λ Q e. e ∙ ap (λ (s : List Slot). queue_words (with_slots s Q)) (sym (up_none (λ x. free) Q.slots)))
 
 pub loop-k-preserved : goal.loop-k-preserved
 loop-k-preserved c = (
   search rules,
-  search rules,
   λ Q e.
-      c.set_free.ensures (with_slots (up_to (λ x. free) c.loop-k.k Q.slots) Q) (c.loop-k.invariant.2 Q e)
+      c.set_free.ensures (with_slots (up_to (λ x. free) c.loop-k.k Q.slots) Q) (c.loop-k.invariant.1 Q e)
       ∙ ap (λ (t : List Slot). queue_words (with_slots t Q)) (up_more (λ x. free) c.loop-k.k Q.slots (omega (arith, held_slots _ Q c.requires e))),
 )
 
 pub returns : goal.returns
 returns c Q e =
     let end : c.loop-k.k ≡ length Q.slots = omega (arith, c.loop-k-test.false, held_slots _ Q c.requires e) in
-    c.loop-k.invariant.2 Q e
+    c.loop-k.invariant.1 Q e
     ∙ ap (λ (t : List Slot). queue_words (with_slots t Q)) (ap (λ (n : ℕ). up_to (λ x. free) n Q.slots) end ∙ up_all (λ x. free) Q.slots ∙ free_each Q.slots)

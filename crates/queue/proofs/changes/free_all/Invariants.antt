@@ -1,6 +1,5 @@
 -- `queue::free_all` meets its contract. The invariant: the words are those of the queue whose first `k` slots are free.
 use mathlib.Core.Path.{◌≡◌}
-use Prim.Native.Nat.{◌≤◌, ◌-◌}
 use lib.ListN.{length}
 use Rattle.model.specs.Device.{Queue, with_slots, free}
 use Rattle.queue.specs.Words.{queue_words}
@@ -8,7 +7,4 @@ use Rattle.queue.proofs.Each.{up_to}
 use Rattle.queue.proofs.changes.free_all.Given as goal
 
 abbrev pub invariant-loop-k : goal.invariant-loop-k
-invariant-loop-k l = (l.k ≤ 16) × (length l.q ≡ 84) × ((Q : Queue) → l.initial.q ≡ queue_words Q → l.q ≡ queue_words (with_slots (up_to (λ x. free) l.k Q.slots) Q))
-
-abbrev pub decreases-loop-k : goal.decreases-loop-k
-decreases-loop-k l = 16 - l.k
+invariant-loop-k l = (length l.q ≡ 84) × ((Q : Queue) → l.initial.q ≡ queue_words Q → l.q ≡ queue_words (with_slots (up_to (λ x. free) l.k Q.slots) Q))

@@ -1,6 +1,5 @@
 -- `queue::stop_all` meets its contract. The invariant: the words are those of the queue whose first `i` slots are stopped.
 use mathlib.Core.Path.{◌≡◌}
-use Prim.Native.Nat.{◌≤◌, ◌-◌}
 use lib.ListN.{length}
 use Rattle.model.specs.Device.{Queue, with_slots}
 use Rattle.queue.specs.Changes.{stopped_slot}
@@ -9,7 +8,4 @@ use Rattle.queue.proofs.Each.{up_to}
 use Rattle.queue.proofs.changes.stop_all.Given as goal
 
 abbrev pub invariant-loop-i : goal.invariant-loop-i
-invariant-loop-i l = (l.i ≤ 16) × (length l.q ≡ 84) × ((Q : Queue) → l.initial.q ≡ queue_words Q → l.q ≡ queue_words (with_slots (up_to stopped_slot l.i Q.slots) Q))
-
-abbrev pub decreases-loop-i : goal.decreases-loop-i
-decreases-loop-i l = 16 - l.i
+invariant-loop-i l = (length l.q ≡ 84) × ((Q : Queue) → l.initial.q ≡ queue_words Q → l.q ≡ queue_words (with_slots (up_to stopped_slot l.i Q.slots) Q))

@@ -1,28 +1,16 @@
--- `queue::any_queued` meets its contract. The invariant: what is Queued from `i` on is all that is Queued.
-use mathlib.Core.Path.{refl, sym, ap, ◌∙◌}
-use mathlib.Core.Bool.{not}
-use mathlib.Core.List.{List}
-use native.Mathlib.Omega.{arith}
-use borrow.Author.Rules.{rules}
-use lib.ListN.{drop_of_length-le}
-use Rattle.laws.specs.Lists.{is_empty}
-use Rattle.model.specs.Device.{Buffer, queued_in}
+-- `queue::any_queued` meets its contract: any buffer is Queued where any place has one.
+use Rattle.std.proofs.Common.{◌≡◌, ℕ, true, false, rules, refl}
+use Rattle.std.proofs.lemmas.Iterator.{cases_from_any, YieldsList-from_range}
+use borrow.Author.Tests.{tests}
+use Rattle.laws.proofs.Ranges.{any_from}
+use Rattle.queue.specs.Search.{slot_at, is_queued}
 use Rattle.queue.proofs.Records.{held_slots}
-use Rattle.queue.proofs.Finds.{queued_here, queued_later}
+use Rattle.queue.proofs.Finds.{queued_places}
 use Rattle.queue.proofs.search.any_queued.Goals as goal
-
-pub loop-i-init : goal.loop-i-init
-loop-i-init c = (search rules, λ Q e. refl)
-
-pub returns-then-slot_queued : goal.returns-then-slot_queued
-returns-then-slot_queued c Q e =
-    let test = sym (c.slot_queued.ensures Q e) ∙ c.if-slot_queued.true in
-    sym (ap (λ (b : List Buffer). not (is_empty b)) (c.loop-i.invariant.1 Q e ∙ queued_here Q.slots c.loop-i.i (omega (arith, held_slots _ Q c.requires e)) test))
-
-pub loop-i-preserved : goal.loop-i-preserved
-loop-i-preserved c =
-    (search rules, λ Q e. c.loop-i.invariant.1 Q e ∙ queued_later Q.slots c.loop-i.i (omega (arith, held_slots _ Q c.requires e)) (sym (c.slot_queued.ensures Q e) ∙ c.if-slot_queued.false))
 
 pub returns : goal.returns
 returns c Q e =
-    sym (ap (λ (b : List Buffer). not (is_empty b)) (c.loop-i.invariant.1 Q e ∙ ap queued_in (drop_of_length-le Q.slots {i = c.loop-i.i} (omega (arith, held_slots _ Q c.requires e, c.loop-i-test.false)))))
+    let p = λ (k : ℕ). is_queued (slot_at k Q.slots) in
+    queued_places Q.slots (held_slots _ Q c.requires e) c.any.result
+    (any_from p 16 c.any.result
+    (cases_from_any _ _ c.any.result (λ k. p k ≡ true) (λ k. p k ≡ false) c.any.ensures.ran (YieldsList-from_range 0 16 16 refl refl) (λ x q k. search (rules, tests)) (λ x q k. search (rules, tests))))

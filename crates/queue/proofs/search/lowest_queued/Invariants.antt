@@ -1,14 +1,10 @@
--- `queue::lowest_queued` meets its contract. The invariant: `lowest` stands for the lowest number of the slots from `i` on.
+-- `queue::lowest_queued` meets its contract. The invariant: `lowest` is the lowest number of the slots from the last one looked at on.
 use mathlib.Core.Path.{◌≡◌}
-use Prim.Native.Nat.{◌≤◌}
 use lib.ListN.{drop}
 use Rattle.model.specs.Device.{Queue}
 use Rattle.queue.specs.Words.{queue_words}
-use Rattle.queue.specs.Lowest.{lowest_queued, as_number}
+use Rattle.queue.specs.Lowest.{lowest_queued}
 use Rattle.queue.proofs.search.lowest_queued.Given as goal
 
-abbrev pub invariant-loop-i : goal.invariant-loop-i
-invariant-loop-i l = (l.i ≤ 16) × ((Q : Queue) → l.q ≡ queue_words Q → as_number l.lowest ≡ lowest_queued l.least (drop l.i Q.slots))
-
-abbrev pub decreases-loop-i : goal.decreases-loop-i
-decreases-loop-i l = l.i
+abbrev pub invariant-loop-k : goal.invariant-loop-k
+invariant-loop-k l = (Q : Queue) → l.q ≡ queue_words Q → l.lowest ≡ lowest_queued l.least (drop l.k Q.slots)

@@ -12,4 +12,4 @@ returns-then-b-eq0 c (occupied n b) e = absurd (eqb-false 1 0 refl (sym (live_wo
 pub returns : goal.returns
 returns c vacant e =
     absurd (c.if-b-eq0.false (vacant_word e))
-returns c (occupied n b) e = c.wrapping_add_u32.ensures.value ∙ ap (λ (v : ℕ). (v + 1) % 2 ^ 32) (stream_word _ n b e) ∙ ap (λ (v : ℕ). v % 2 ^ 32) (let next : n + 1 ≡ suc n = omega arith in next)
+returns c (occupied n b) e = ap (λ (v : ℕ). (v + 1) % 2 ^ 32) (stream_word _ n b e) ∙ ap (λ (v : ℕ). v % 2 ^ 32) (let next : n + 1 ≡ suc n = omega arith in next)

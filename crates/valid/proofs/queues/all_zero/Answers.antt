@@ -1,17 +1,19 @@
--- `valid::all_zero` meets its contract. The invariant: while `zero` stands each word below `i` is 0, and once it does not some word is not.
-use mathlib.Core.Path.{sym, ◌∙◌}
-use native.Mathlib.Omega.{arith}
+-- `valid::queues::all_zero` meets its contract: the words so far are zero, and so is one word more.
+use mathlib.Core.Path.{◌≡◌, refl}
+use mathlib.Core.Bool.{true}
+use lib.ListN.{length}
 use borrow.Author.Rules.{rules}
-use Rattle.laws.proofs.Tests.{never}
-use Rattle.laws.proofs.Lists.{decide}
-use Rattle.laws.proofs.Same.{zero_true}
+use borrow.Author.Tests.{tests}
+use Rattle.std.proofs.lemmas.Iterator.{YieldsList-from_slice}
+use Rattle.std.proofs.iter.Yields.{fronts}
+use Rattle.std.proofs.lemmas.Fn.{fold_over}
+use Rattle.laws.specs.Lists.{same}
+use Rattle.laws.specs.Parts.{zeros}
+use Rattle.valid.proofs.QueueStands.{zero_more}
 use Rattle.valid.proofs.queues.all_zero.Goals as goal
 
-pub loop-i-init : goal.loop-i-init
-loop-i-init c = (search rules, λ e j h. absurd (omega arith), λ e. never e)
-
 pub returns : goal.returns
+unfolding same zeros
 returns c =
-    decide c.loop-i.zero
-    (λ e. e ∙ sym (zero_true _ (λ j h. c.loop-i.invariant.1 e j (omega (arith, c.loop-i-test.false)))))
-    (λ e. e ∙ sym (c.loop-i.invariant.2 e))
+    fold_over fronts (λ y. y.now) _ (λ l z. z ≡ same l (zeros (length l))) _ (λ l a x b f j k. (zero_more l x.now j (search (rules, tests)), search (rules, tests)))
+    c.iter.result c.args.s.now true _ (YieldsList-from_slice {s = c.iter.result} _ c.iter.ensures.rest).runs refl c.fold.ensures.ran
