@@ -12,7 +12,7 @@ pub record VerdictPromises : Type 0 where
   pub named_exactly : NamedExactly layout
   -- what the log program writes for frames, with these put in between, is accepted
   pub own_accepted : OwnAccepted layout
-  -- however a log is cut into pieces, the calls of `take_piece` on them and that of `last_verdict` give the verdict on the whole log
+  -- however a log is cut into pieces, the calls of `take_piece` on them and that of `verdict` give the verdict on the whole log
   pub verdict_of_pieces : VerdictOfPieces layout
   -- and so, for the bytes that they use, calls on any pieces do
   pub verdict_of_calls : VerdictOfCalls layout

@@ -6,7 +6,7 @@ ghost use Rattle.checker.specs.Meant.{kind_meant};
 use line::LINE_ROOM;
 
 // A frame is a question.
-#[derive(Clone, Copy)]
+#[derive(Clone, Copy, Debug, PartialEq, Eq)]
 pub enum LineKind {
     QuestionKind,
     AnswerKind,

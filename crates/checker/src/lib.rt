@@ -21,7 +21,7 @@ mod kinds;
 mod lines;
 
 // What is wrong with a line, or with the end of the log. Of a line that is refused the number is the refusal's.
-#[derive(Clone, Copy, Debug)]
+#[derive(Clone, Copy, Debug, PartialEq, Eq)]
 pub enum Fault {
     MissingAnswer = 1,
     ExtraAnswer = 2,
@@ -30,7 +30,7 @@ pub enum Fault {
 }
 
 // The first wrong line of a log.
-#[derive(Clone, Copy, Debug)]
+#[derive(Clone, Copy, Debug, PartialEq, Eq)]
 pub struct WrongLine {
     pub fault: Fault,
     pub line: u64,
@@ -38,7 +38,7 @@ pub struct WrongLine {
 
 // A verdict as it crosses to the host: the line that is named, or 0, and the verdict's number.
 #[repr(C)]
-#[derive(Clone, Copy)]
+#[derive(Clone, Copy, Debug, PartialEq, Eq)]
 pub struct NumberedVerdict {
     pub line: u64,
     pub verdict: u32,
@@ -140,30 +140,33 @@ fn fresh_table() -> [u32; TABLE_WORDS]
 pub fn numbered_verdict(log: &[u8]) -> NumberedVerdict
     ensures { result ≡ numbered_by (log_verdict layout log.now) }
 {
-    in_numbers(check_log(log))
+    check_log(log).into()
 }
 
-// A verdict's line and number.
-fn in_numbers(verdict: Result<(), WrongLine>) -> NumberedVerdict
-    ensures { result ≡ numbered_by (verdict_meant verdict) }
-{
-    match verdict {
-        Ok(()) => NumberedVerdict {
-            line: 0,
-            verdict: 0,
-        },
-        Err(wrong) => NumberedVerdict {
-            line: wrong.line,
-            verdict: fault_number(wrong.fault),
-        },
+// An accepted log names no line.
+impl From<Result<(), WrongLine>> for NumberedVerdict {
+    ghost from_gives = { λ v n. n ≡ numbered_by (verdict_meant v) };
+
+    fn from(verdict: Result<(), WrongLine>) -> NumberedVerdict {
+        match verdict {
+            Ok(()) => NumberedVerdict {
+                line: 0,
+                verdict: 0,
+            },
+            Err(wrong) => NumberedVerdict {
+                line: wrong.line,
+                verdict: wrong.fault.into(),
+            },
+        }
     }
 }
 
-// The number of a fault.
-fn fault_number(fault: Fault) -> u32
-    ensures { result ≡ fault_number (fault_meant fault) }
-{
-    fault as u32
+impl From<Fault> for u32 {
+    ghost from_gives = { λ f n. n ≡ fault_number (fault_meant f) };
+
+    fn from(fault: Fault) -> u32 {
+        fault as u32
+    }
 }
 
 impl fmt::Display for Fault {

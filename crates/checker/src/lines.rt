@@ -12,7 +12,7 @@ use crate::{Fault, WrongLine};
 use std::marker::Model;
 
 // Before a line, where nothing was wrong so far: its number, and where in the text of the last question's answers those that are due begin and end.
-#[derive(Clone, Copy)]
+#[derive(Clone, Copy, Debug, PartialEq, Eq)]
 pub struct Due {
     pub line: u64,
     pub at: usize,

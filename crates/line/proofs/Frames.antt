@@ -1,6 +1,6 @@
 -- Laws of the frames in a line: what each length and each first byte decides, and what the code reads out of the digits.
 use mathlib.Core.Path.{◌≡◌, sym, ap, ap₂, ◌∙◌}
-use mathlib.Core.Bool.{true, false}
+use mathlib.Core.Bool.{true, false, cond}
 use mathlib.Core.List.{List, []}
 use Prim.Native.Nat.{ℕ, ◌*◌, ◌-◌, ◌/◌, ◌≤◌, ◌<◌}
 use native.Mathlib.Omega.{arith}
@@ -8,6 +8,7 @@ use lib.Dec.{eqb}
 use lib.ListN.{length, get_or, take, drop, length-drop}
 use lib.Seq.{sets, length-take-le}
 use borrow.Author.Tests.{eq-eqb, ne_eqb}
+use Rattle.std.specs.Prelude.{Option, None, Some}
 use Rattle.laws.specs.Tests.{within}
 use Rattle.laws.proofs.Tests.{within_true, within_below, within_above}
 use Rattle.laws.proofs.Lists.{decide}
@@ -16,7 +17,7 @@ use Rattle.field.specs.Field.{field}
 use Rattle.field.proofs.Laws.{field_part}
 use Rattle.model.specs.Steps.{command, finish, drained}
 use Rattle.line.specs.Hex.{is_hex, hex_bytes}
-use Rattle.line.specs.Line.{Line, step_line, no_frame, command_in, finish_in, drained_in, frame_in, line_of, command_bytes}
+use Rattle.line.specs.Line.{Line, step_line, no_frame, command_in, finish_in, drained_in, frame_in, line_of, of_length, command_bytes}
 use Rattle.line.proofs.Digits.{length_bytes, bytes_drop, bytes_take, hex_even}
 
 -- By the first byte
@@ -90,30 +91,51 @@ module _ (line : List ℕ) (hex : is_hex line ≡ true) where
   unfolding command_in
   command_long h = rw (within_above (length (hex_bytes line)) 5 4189 (omega (arith, length_bytes line, hex_even line hex)))
 
-  pub finish_other : (length line ≡ 50 → ⊥) → finish_in (hex_bytes line) ≡ no_frame
-  unfolding finish_in
-  finish_other h = rw (ne_eqb (length (hex_bytes line)) 25 (λ e. h (omega (arith, e, length_bytes line, hex_even line hex))))
-
-  pub drained_other : (length line ≡ 10 → ⊥) → drained_in (hex_bytes line) ≡ no_frame
-  unfolding drained_in
-  drained_other h = rw (ne_eqb (length (hex_bytes line)) 5 (λ e. h (omega (arith, e, length_bytes line, hex_even line hex))))
-
 -- the bytes of a report's line in a local array
 array_is : (d line bytes : List ℕ) → length line ≡ 2 * length d → bytes ≡ sets d 0 (hex_bytes line) → bytes ≡ hex_bytes line
 array_is d line bytes h e = e ∙ sets_whole d (hex_bytes line) (omega (arith, length_bytes line))
 
-pub finish_read : (line d bytes : List ℕ) (n q r f t : ℕ) → length line ≡ 50 → length d ≡ 25 → bytes ≡ sets d 0 (hex_bytes line)
-    → n ≡ field 4 bytes 1 → q ≡ field 4 bytes 5 → r ≡ field 4 bytes 9 → f ≡ field 4 bytes 13 → t ≡ field 8 bytes 17
-    → step_line (finish n q r f t) ≡ finish_in (hex_bytes line)
-unfolding finish_in
-finish_read line d bytes n q r f t h k e a₁ a₂ a₃ a₄ a₅ =
-    rw (eq-eqb (length (hex_bytes line)) 25 (omega (arith, length_bytes line))) (rw (a₁, a₂, a₃, a₄, a₅, array_is d line bytes (omega arith) e))
+-- the digits of so many bytes, or of another number
+pub length_other : (n : ℕ) (line : List ℕ) → (length line / 2 ≡ n → ⊥) → None ≡ of_length n (hex_bytes line)
+length_other n line h = rw (ne_eqb (length (hex_bytes line)) n (λ e. h (sym (length_bytes line) ∙ e)))
 
-pub drained_read : (line d bytes : List ℕ) (n : ℕ) → length line ≡ 10 → length d ≡ 5 → bytes ≡ sets d 0 (hex_bytes line) → n ≡ field 4 bytes 1
-    → step_line (drained n) ≡ drained_in (hex_bytes line)
-unfolding drained_in
-drained_read line d bytes n h k e a =
-    rw (eq-eqb (length (hex_bytes line)) 5 (omega (arith, length_bytes line))) (rw (a, array_is d line bytes (omega arith) e))
+pub length_is : (n : ℕ) (line d bytes : List ℕ) → is_hex line ≡ true → length line / 2 ≡ n → length d ≡ n → bytes ≡ sets d 0 (hex_bytes line)
+    → Some bytes ≡ of_length n (hex_bytes line)
+length_is n line d bytes hex h k e =
+    rw (eq-eqb (length (hex_bytes line)) n (length_bytes line ∙ h), array_is d line bytes (omega (arith, h, k, hex_even line hex)) e)
+
+-- a report is read where there are so many bytes
+abbrev report : (List ℕ → Line) → Option (List ℕ) → Line
+report f (Some b) = f b
+report f None = no_frame
+
+report_is : (f : List ℕ → Line) (n : ℕ) (b : List ℕ) → report f (of_length n b) ≡ cond (eqb (length b) n) (f b) no_frame
+report_is f n b = decide (eqb (length b) n) (λ e. rw e) (λ e. rw e)
+
+abbrev finish_of : List ℕ → Line
+finish_of b = step_line (finish (field 4 b 1) (field 4 b 5) (field 4 b 9) (field 4 b 13) (field 8 b 17))
+
+abbrev drained_of : List ℕ → Line
+drained_of b = step_line (drained (field 4 b 1))
+
+module _ (b : List ℕ) where
+  pub finish_other : None ≡ of_length 25 b → no_frame ≡ finish_in b
+  unfolding finish_in
+  finish_other e = ap (report finish_of) e ∙ report_is finish_of 25 b
+
+  pub drained_other : None ≡ of_length 5 b → no_frame ≡ drained_in b
+  unfolding drained_in
+  drained_other e = ap (report drained_of) e ∙ report_is drained_of 5 b
+
+  pub finish_read : {bytes : List ℕ} {n q r f t : ℕ} → Some bytes ≡ of_length 25 b
+      → n ≡ field 4 bytes 1 → q ≡ field 4 bytes 5 → r ≡ field 4 bytes 9 → f ≡ field 4 bytes 13 → t ≡ field 8 bytes 17
+      → step_line (finish n q r f t) ≡ finish_in b
+  unfolding finish_in
+  finish_read {bytes} {n} {q} {r} {f} {t} e a₁ a₂ a₃ a₄ a₅ = rw (a₁, a₂, a₃, a₄, a₅) (ap (report finish_of) e ∙ report_is finish_of 25 b)
+
+  pub drained_read : {bytes : List ℕ} {n : ℕ} → Some bytes ≡ of_length 5 b → n ≡ field 4 bytes 1 → step_line (drained n) ≡ drained_in b
+  unfolding drained_in
+  drained_read {bytes} {n} e a = rw a (ap (report drained_of) e ∙ report_is drained_of 5 b)
 
 -- a command's ticket stands in the line's first 10 digits, its bytes in the others
 module _ (line frame : List ℕ) (least : 10 ≤ length line) (most : length line ≤ 8378) (room : 4184 ≤ length frame) where

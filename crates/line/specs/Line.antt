@@ -41,10 +41,14 @@ line_of line = cond (is_hex line) (frame_in (hex_bytes line)) no_frame
 
 -- What `decode_line` answers
 
+-- bytes, where they are so many
+abbrev pub of_length : ℕ → List ℕ → Option (List ℕ)
+of_length n b = cond (eqb (length b) n) (Some b) None
+
 -- a frame of 00, 01 or 02, with the buffer that is left: a command's bytes are the first of it
 abbrev pub framed : Frame → List ℕ → Act
 framed (Command ticket count) buffer = command ticket (take count buffer)
-framed (Finish stream queue resource flags timestamp) buffer = finish stream queue resource flags timestamp
+framed (Finish r) buffer = finish r.stream r.queue r.resource r.flags r.timestamp
 framed (Drained stream) buffer = drained stream
 
 -- a frame, or refusal 7
@@ -55,7 +59,7 @@ decoded None buffer = refused_line 7
 -- how many bytes of the buffer are a command's
 abbrev pub count_in : Frame → ℕ
 count_in (Command ticket count) = count
-count_in (Finish stream queue resource flags timestamp) = 0
+count_in (Finish r) = 0
 count_in (Drained stream) = 0
 
 abbrev pub count_of : Option Frame → ℕ

@@ -7,6 +7,7 @@ mod splitting;
 mod writing;
 
 pub use decoding::decode_line;
+use protocol::FinishReport;
 pub use splitting::{KeptLine, LINE_ROOM, first_line};
 pub use writing::{put_outcome, put_refusal};
 
@@ -14,20 +15,9 @@ pub use writing::{put_outcome, put_refusal};
 const NEWLINE: u8 = 10;
 
 // A frame. A command's bytes stand in the buffer that was lent, from its start.
-#[derive(Clone, Copy)]
+#[derive(Clone, Copy, Debug, PartialEq, Eq)]
 pub enum Frame {
-    Command {
-        ticket: u32,
-        count: usize,
-    },
-    Finish {
-        stream: u32,
-        queue: u32,
-        resource: u32,
-        flags: u32,
-        timestamp: u64,
-    },
-    Drained {
-        stream: u32,
-    },
+    Command { ticket: u32, count: usize },
+    Finish(FinishReport),
+    Drained { stream: u32 },
 }

@@ -7,7 +7,7 @@ use std::io::{Read, Write};
 use std::{fmt, io};
 
 // Why no verdict was given.
-#[derive(Clone, Copy)]
+#[derive(Clone, Copy, Debug, PartialEq, Eq)]
 enum Failure {
     Unread,
     Unwritten,

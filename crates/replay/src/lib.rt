@@ -12,10 +12,10 @@ ghost use Rattle.replay.specs.Fed.{Logs, Did};
 
 use line::Frame;
 pub use line::KeptLine;
-use protocol::{FinishReport, Outcome, Refusal};
+use protocol::{Outcome, Refusal};
 
 // What a call on a piece did: the bytes used of it, the bytes written.
-#[derive(Clone, Copy)]
+#[derive(Clone, Copy, Debug, PartialEq, Eq)]
 pub struct Fed {
     pub used: usize,
     pub written: usize,
@@ -75,22 +75,7 @@ fn step_frame(table: &mut [u32], found: Frame, frame: &[u8], answers: &mut [u8])
         Frame::Command { ticket, count } => {
             guard::command(table, ticket, &frame[..count], answers)
         }
-        Frame::Finish {
-            stream,
-            queue,
-            resource,
-            flags,
-            timestamp,
-        } => {
-            let report = FinishReport {
-                stream,
-                queue,
-                resource,
-                flags,
-                timestamp,
-            };
-            guard::finish(table, report, answers)
-        }
+        Frame::Finish(report) => guard::finish(table, report, answers),
         Frame::Drained { stream } => guard::drained(table, stream, answers),
     };
     step.into()

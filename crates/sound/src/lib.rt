@@ -32,7 +32,7 @@ pub enum ControlRefusal {
 // The result of a message: the number of its refusal, or 0, the state of the stream, and the bytes that were written. It crosses to the
 // host as it is.
 #[repr(C)]
-#[derive(Clone, Copy)]
+#[derive(Clone, Copy, Debug, PartialEq, Eq)]
 pub struct ControlOutcome {
     pub refusal: u32,
     pub state: u32,

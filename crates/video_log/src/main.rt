@@ -6,7 +6,7 @@ use std::fmt;
 use std::io::{Read, Write};
 
 // Why a log was not run to its end.
-#[derive(Clone, Copy)]
+#[derive(Clone, Copy, Debug, PartialEq, Eq)]
 enum Failure {
     Unread,
     Unwritten,

@@ -1,17 +1,20 @@
 -- `line::decoding::decode_line` meets its contract: each way through it is a law of `line_of`.
-use mathlib.Core.Path.{refl, sym, ap, ◌∙◌}
+use mathlib.Core.Path.{◌≡◌, refl, sym, ap, ◌∙◌}
 use native.Mathlib.Omega.{arith}
 use lib.Seq.{sets}
 use Rattle.line.specs.Hex.{hex_bytes}
-use Rattle.line.specs.Line.{no_frame, command_in, finish_in, drained_in}
+use Rattle.line.specs.Line.{no_frame, command_in, finish_in, drained_in, line_of}
 use Rattle.line.proofs.Frames.{kind_command, kind_finish, kind_drained, kind_other, finish_bytes, drained_bytes, line_bad, line_hex, line_as, line_short}
 use Rattle.line.proofs.decoding.decode_line.Goals as goal
+use Rattle.line.proofs.decoding.decode_line.Goals.{then-not-is_hex-via-then-not-is_hex, then-not-is_hex-via-else-not-is_hex+then-line-lt-SHORTEST}
 
 pub returns-then-not-is_hex : goal.returns-then-not-is_hex
-returns-then-not-is_hex c = let rest = line_as c.args.line.now c.args.frame.now _ no_frame no_frame (line_bad c.args.line.now (sym c.is_hex.ensures ∙ c.if-not-is_hex.true)) refl refl in record { fits = omega arith; means = rest.0; stored = rest.1 }
-
-pub returns-then-line-lt-SHORTEST : goal.returns-then-line-lt-SHORTEST
-returns-then-line-lt-SHORTEST c = let rest = line_as c.args.line.now c.args.frame.now _ no_frame no_frame (line_short c.args.line.now (sym c.is_hex.ensures ∙ c.if-not-is_hex.false) c.if-line-lt-SHORTEST.true) refl refl in record { fits = omega arith; means = rest.0; stored = rest.1 }
+returns-then-not-is_hex c =
+    let none : line_of c.args.line.now ≡ no_frame = elim c.then-not-is_hex.branch [
+      | then-not-is_hex-via-then-not-is_hex w ↦ line_bad c.args.line.now (sym c.is_hex.ensures ∙ w.if-not-is_hex.true)
+      | then-not-is_hex-via-else-not-is_hex+then-line-lt-SHORTEST w ↦ line_short c.args.line.now (sym c.is_hex.ensures ∙ w.if-not-is_hex.false) w.if-line-lt-SHORTEST.true
+    ] in
+    let rest = line_as c.args.line.now c.args.frame.now _ no_frame no_frame none refl refl in record { fits = omega arith; means = rest.0; stored = rest.1 }
 
 pub returns-in-0 : goal.returns-in-0
 returns-in-0 c =
