@@ -9,7 +9,7 @@ mod writing;
 pub use decoding::decode_line;
 use protocol::FinishReport;
 pub use splitting::{KeptLine, LINE_ROOM, first_line};
-pub use writing::{put_outcome, put_refusal};
+pub use writing::{put_answers, put_refusal};
 
 // Every line ends with this byte, read or written.
 const NEWLINE: u8 = 10;

@@ -2,7 +2,7 @@
 ghost use Rattle.std.specs.Prelude.{◌≡◌, [], ◌∷◌, ◌+◌, ◌*◌, ◌<◌, ◌≤◌, length};
 ghost use Rattle.laws.specs.Stores.{Wrote};
 ghost use Rattle.model.specs.Answers.{Written, rewritten};
-ghost use Rattle.line.specs.Log.{answer_line, refusal_line, answer_lines, Whole, shown};
+ghost use Rattle.line.specs.Log.{answer_line, refusal_line, answer_lines, Whole};
 
 use crate::{NEWLINE, hex};
 
@@ -11,20 +11,8 @@ const ANSWER: u8 = 0x80;
 
 const REFUSAL: u8 = 0xff;
 
-// Writes the lines of a step, its refusal or its answers, which are whole, from the start of `out`; returns the place after them.
-pub fn put_outcome(refusal: u32, answers: &[u8], out: &mut [u8]) -> usize
-    requires { (refusal < 256) × Whole answers.now × (5 ≤ length out.old) × (2 * length answers.now ≤ length out.old) }
-    ensures bound { result ≤ length out.old }
-    ensures wrote { Wrote out.old out.new 0 result (shown refusal answers.now) }
-{
-    if refusal == 0 {
-        return put_answers(answers, out);
-    }
-    put_refusal(refusal, out)
-}
-
-// Writes a line for each of the answers; returns the place after the last.
-fn put_answers(answers: &[u8], out: &mut [u8]) -> usize
+// Writes a line for each of the answers, which are whole, from the start of `out`; returns the place after the last.
+pub fn put_answers(answers: &[u8], out: &mut [u8]) -> usize
     requires { Whole answers.now × (2 * length answers.now ≤ length out.old) }
     ensures bound { result ≤ 2 * length answers.now }
     ensures wrote { Wrote out.old out.new 0 result (answer_lines answers.now) }

@@ -2,7 +2,7 @@
 use mathlib.Core.Path.{◌≡◌, refl, sym, ap, ◌∙◌, subst}
 use mathlib.Core.Bool.{Bool, true, false, cond}
 use mathlib.Core.List.{List, []}
-use Prim.Native.Nat.{ℕ, ◌≤◌, ◌<◌}
+use Prim.Native.Nat.{ℕ, ◌+◌, ◌≤◌, ◌<◌}
 use native.Mathlib.Omega.{arith}
 use lib.Dec.{eqb, leb}
 use lib.ListN.{length, take, length-take}
@@ -19,6 +19,11 @@ use Rattle.model.specs.Promises.{listed}
 use Rattle.model.proofs.Refusals.{only_listed_lem}
 use Rattle.model.proofs.Unchanged.{writes_at_most_lem}
 use Rattle.table.specs.Blocks.{layout}
+use Rattle.protocol.specs.declared.outcome.Refusal.{Refusal}
+use Rattle.protocol.specs.declared.outcome.Refusal.TheVariants.{ShortTable, InvalidTable, ShortRoom, ShortCommand, UnexpectedReport, BadFlags, NoFrame}
+use Rattle.protocol.specs.Refusals.{refusal_number}
+use Rattle.protocol.specs.contracts.outcome.Refusal.{the_type}
+use denote.Enum.Declared.{tag_of}
 use Rattle.line.specs.Line.{Line, step_line, refused_line, line_of}
 use Rattle.line.specs.Split.{Split, split}
 use Rattle.line.specs.Reading.{Reader, Call, on_split, on_piece, last_step}
@@ -59,6 +64,16 @@ module _ (L : Layout) (t line room : List ℕ) (a : Act) (is : line_of line ≡ 
       subst (λ (x : Logged). Logs x r t' out out')
       (ap (λ (x : Effect). record { text = shown x.refusal (take x.written x.room); table = x.table }) e ∙ sym (line_step_lem L t line room a is long))
       (record { wrote = w; table = refl })
+
+-- what is shown of a step that is refused; the number is cast from the variant in the code
+pub shown_refused : (e : Refusal) (bytes : List ℕ) → refusal_line (tag_of the_type e + 1) ≡ shown (refusal_number e) bytes
+shown_refused ShortTable bytes = refl
+shown_refused InvalidTable bytes = refl
+shown_refused ShortRoom bytes = refl
+shown_refused ShortCommand bytes = refl
+shown_refused UnexpectedReport bytes = refl
+shown_refused BadFlags bytes = refl
+shown_refused NoFrame bytes = refl
 
 -- a line that is refused
 pub logged_refused : (L : Layout) (t line : List ℕ) (k : ℕ) {out out' : List ℕ} {r : ℕ} → line_of line ≡ refused_line k → Wrote out out' 0 r (refusal_line k)

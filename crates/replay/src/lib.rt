@@ -4,6 +4,7 @@
 ghost use Rattle.std.specs.Prelude.{◌≡◌, ◌<◌, ◌≤◌, length};
 ghost use Rattle.model.specs.Tables.{effect};
 ghost use Rattle.table.specs.Blocks.{layout};
+ghost use Rattle.protocol.specs.Refusals.{outcome_of};
 ghost use Rattle.guard.specs.AsEffect.{as_effect};
 ghost use Rattle.line.specs.Line.{framed, count_in};
 ghost use Rattle.line.specs.Log.{line_step};
@@ -12,7 +13,7 @@ ghost use Rattle.replay.specs.Fed.{Logs, Did};
 
 use line::Frame;
 pub use line::KeptLine;
-use protocol::{Outcome, Refusal};
+use protocol::Refusal;
 
 // What a call on a piece did: the bytes used of it, the bytes written.
 #[derive(Clone, Copy, Debug, PartialEq, Eq)]
@@ -61,22 +62,27 @@ pub fn log_line(table: &mut [u32], line: &[u8], out: &mut [u8; 2112]) -> usize
     let Some(found) = line::decode_line(line, &mut frame) else {
         return line::put_refusal(Refusal::NoFrame as u32, out);
     };
-    let outcome = step_frame(table, found, &frame, &mut answers);
-    let written = outcome.written as usize;
-    line::put_outcome(outcome.refusal, &answers[..written], out)
+    match step_frame(table, found, &frame, &mut answers) {
+        Ok(written) => line::put_answers(&answers[..written as usize], out),
+        Err(refusal) => line::put_refusal(refusal as u32, out),
+    }
 }
 
 // Carries out the step of a frame.
-fn step_frame(table: &mut [u32], found: Frame, frame: &[u8], answers: &mut [u8]) -> Outcome
+fn step_frame(
+    table: &mut [u32],
+    found: Frame,
+    frame: &[u8],
+    answers: &mut [u8],
+) -> Result<u32, Refusal>
     requires { count_in found ≤ length frame.now }
-    ensures { as_effect result table.new answers.new ≡ effect layout table.old (framed found frame.now) answers.old }
+    ensures { as_effect (outcome_of result) table.new answers.new ≡ effect layout table.old (framed found frame.now) answers.old }
 {
-    let step = match found {
+    match found {
         Frame::Command { ticket, count } => {
             guard::command(table, ticket, &frame[..count], answers)
         }
         Frame::Finish(report) => guard::finish(table, report, answers),
         Frame::Drained { stream } => guard::drained(table, stream, answers),
-    };
-    step.into()
+    }
 }
