@@ -4,19 +4,14 @@ use mathlib.Core.Bool.{Bool, true, false, cond}
 use mathlib.Core.List.{List, []}
 use Prim.Native.Nat.{ℕ, ◌+◌, ◌≤◌, ◌<◌}
 use native.Mathlib.Omega.{arith}
-use lib.Dec.{eqb, leb}
 use lib.ListN.{length, take, length-take}
-use borrow.Author.Tests.{leb-true, eqb-true}
 use Rattle.laws.specs.Stores.{Wrote}
 use Rattle.laws.proofs.Stores.{wrote_none}
 use Rattle.laws.specs.Lists.{is_empty}
 use Rattle.laws.proofs.Tests.{was_true, was_false}
-use Rattle.laws.proofs.Lists.{decide}
 use Rattle.model.specs.Numbers.{answer_room}
-use Rattle.model.specs.Steps.{Act, command, finish, drained}
+use Rattle.model.specs.Steps.{Act}
 use Rattle.model.specs.Tables.{Layout, Effect, effect}
-use Rattle.model.specs.Promises.{listed}
-use Rattle.model.proofs.Refusals.{only_listed_lem}
 use Rattle.model.proofs.Unchanged.{writes_at_most_lem}
 use Rattle.table.specs.Blocks.{layout}
 use Rattle.protocol.specs.declared.outcome.Refusal.{Refusal}
@@ -34,20 +29,9 @@ use Rattle.replay.specs.declared.Fed.{Fed}
 use Rattle.line.proofs.Cutting.{uses_some}
 use Rattle.line.proofs.Shown.{steps_are_good, writes_answers_lem, line_step_lem, line_refused_lem}
 
--- every refusal that a step can have fits in a byte
-listed_small : (a : Act) (k : ℕ) → listed a k ≡ true → k < 256
-listed_small (command t f) k e = omega (arith, leb-true k 4 e)
-listed_small (finish n q r f t) k e =
-    decide (leb k 3) (λ p. omega (arith, leb-true k 3 p)) (λ p.
-    decide (eqb k 5) (λ q. omega (arith, eqb-true k 5 q)) (λ q. omega (arith, eqb-true k 6 (simp (p, q) at e))))
-listed_small (drained n) k e = decide (leb k 3) (λ p. omega (arith, leb-true k 3 p)) (λ p. omega (arith, eqb-true k 5 (simp p at e)))
-
 -- a line that is a step: what was carried out of it in the answer room
 module _ (L : Layout) (t line room : List ℕ) (a : Act) (is : line_of line ≡ step_line a) (long : answer_room ≤ length room)
     (refusal written : ℕ) (t' room' : List ℕ) (e : record { refusal = refusal; written = written; table = t'; room = room' } ≡ effect L t a room) where
-  pub small : refusal < 256
-  small = subst (λ (x : Effect). x.refusal < 256) (sym e) (listed_small a (effect L t a room).refusal (only_listed_lem L t a room))
-
   pub few_bytes_lem : written ≤ 1056
   few_bytes_lem = subst (λ (x : Effect). x.written ≤ 1056) (sym e) (writes_at_most_lem L t a room)
 
