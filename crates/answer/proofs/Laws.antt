@@ -1,5 +1,5 @@
 -- The bytes that the writers store are those of the model's answers, each with its length.
-use mathlib.Core.Path.{◌≡◌, refl, ◌∙◌}
+use mathlib.Core.Path.{◌≡◌, refl, ap, ◌∙◌}
 use mathlib.Core.List.{List, [], ◌∷◌, ◌++◌, append_assoc, append-nil}
 use Prim.Native.Nat.{ℕ, ◌+◌, ◌*◌, ◌<◌}
 use native.Mathlib.Numerals.{add-one}
@@ -7,8 +7,9 @@ use native.Mathlib.Omega.{arith}
 use lib.ListN.{length, take, get_or}
 use lib.Seq.{sets, take-suc, length-take-le}
 use Rattle.laws.specs.Stores.{Wrote}
-use Rattle.laws.proofs.Stores.{sets_next, wrote_append}
+use Rattle.laws.proofs.Stores.{sets_next, sets_four, wrote_append}
 use Rattle.field.specs.Field.{little_endian}
+use Rattle.field.proofs.Laws.{length_little_endian}
 use Rattle.model.specs.Device.{QueueType, Stream, queue_of}
 use Rattle.model.specs.Frames.{queue_number}
 use Rattle.model.specs.Answers.{Response, buffer_done, parameters, word_bytes, response_type, payload, response_bytes, bytes_of}
@@ -59,6 +60,23 @@ pub buffer_answer : (ticket stream ts flags : ℕ) (q : QueueType)
     → word_bytes (ticket ∷ 24 ∷ response_type (buffer_done q ts flags) ∷ stream ∷ []) ++ (little_endian 8 ts ++ word_bytes (flags ∷ 0 ∷ [])) ≡ bytes_of (answer_to ticket stream (buffer_done q ts flags) ∷ [])
 unfolding response_bytes little_endian
 buffer_answer ticket stream ts flags q = refl
+
+-- the same of four runs of stores
+buffer_bytes : (ticket stream ts flags : ℕ) (q : QueueType)
+    → word_bytes (ticket ∷ 24 ∷ response_type (buffer_done q ts flags) ∷ stream ∷ []) ++ (little_endian 8 ts ++ (little_endian 4 flags ++ little_endian 4 0)) ≡ bytes_of (answer_to ticket stream (buffer_done q ts flags) ∷ [])
+unfolding response_bytes little_endian
+buffer_bytes ticket stream ts flags q = refl
+
+pub sets_buffer : (d : List ℕ) {d₁ d₂ d₃ d₄ : List ℕ} (at ticket stream ts flags : ℕ) (q : QueueType)
+    → d₁ ≡ sets d at (word_bytes (ticket ∷ 24 ∷ response_type (buffer_done q ts flags) ∷ stream ∷ [])) → d₂ ≡ sets d₁ (at + 16) (little_endian 8 ts) → d₃ ≡ sets d₂ (at + 24) (little_endian 4 flags) → d₄ ≡ sets d₃ (at + 28) (little_endian 4 0)
+    → d₄ ≡ sets d at (bytes_of (answer_to ticket stream (buffer_done q ts flags) ∷ []))
+sets_buffer d at ticket stream ts flags q x y z w =
+    let head = ticket ∷ 24 ∷ response_type (buffer_done q ts flags) ∷ stream ∷ [] in
+    let h : length (word_bytes head) ≡ 16 = length_words head in
+    let l : length (little_endian 8 ts) ≡ 8 = length_little_endian 8 ts in
+    let m : length (little_endian 4 flags) ≡ 4 = length_little_endian 4 flags in
+    sets_four d at 16 24 28 (word_bytes head) (little_endian 8 ts) (little_endian 4 flags) (little_endian 4 0) h (omega arith) (omega arith) x y z w
+    ∙ ap (sets d at) (buffer_bytes ticket stream ts flags q)
 
 -- Answers to a get
 

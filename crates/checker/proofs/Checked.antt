@@ -31,6 +31,11 @@ use Rattle.checker.proofs.DueText.{due_none, due_first}
 fits_64 : {n : ℕ} → n ≤ last_number → n ≡ min n last_number
 fits_64 h = omega arith
 
+-- a state in its range is one of 64 bits
+in_type : (r : Result Due WrongLine) → InRange r → (t text : List ℕ) → state_in r t text ≡ in64 (state_in r t text)
+in_type (Ok d) h t text = ap (right_so_far t (due_in d.at d.end text)) (fits_64 h.1)
+in_type (Err w) h t text = ap (stopped_at (fault_meant w.fault)) (fits_64 h)
+
 -- what was written is what stands there
 wrote_there : {d e : List ℕ} {r : ℕ} {xs : List ℕ} → Wrote d e 0 r xs → r ≤ length e → due_in 0 r e ≡ lines_in xs
 unfolding due_in

@@ -1,4 +1,4 @@
--- Laws of little-endian fields, each over the width: of reading by `field_padded`, of storing by `sets_first`, of both by `field_little_endian`.
+-- Laws of little-endian fields, each over the width: of reading by `field_split` and `field_padded`, of storing by `sets_split` and `sets_first`, of both by `field_little_endian`.
 use mathlib.Core.Path.{◌≡◌, refl, sym, ap, ◌∙◌}
 use mathlib.Core.List.{List, [], ◌∷◌, ◌++◌}
 use mathlib.Core.Bool.{true}
@@ -8,14 +8,14 @@ use native.Mathlib.Omega.{arith}
 use lib.ListN.{length, get_or, take, drop, replicate, length-drop}
 use lib.Dec.{ltb, lit<}
 use borrow.Author.Tests.{ltb-true, lt-ltb}
-use lib.Arith.{mod-mul}
+use lib.Arith.{mod-mul, digits_mod, digits_div}
 use lib.Seq.{get_or-drop, get_or-take, get_or-append-add, sets, take_at, length-take-le}
 use Rattle.std.specs.Int.{w64, from_le_bytes, to_le_bytes}
 use Rattle.laws.specs.Lists.{all_of}
 use Rattle.laws.specs.Parts.{with_part}
 use Rattle.laws.proofs.Tests.{both}
 use Rattle.laws.proofs.Lists.{all_get_d}
-use Rattle.laws.proofs.Stores.{sets_with_part}
+use Rattle.laws.proofs.Stores.{sets_append, sets_with_part}
 use Rattle.field.specs.Field.{field, little_endian}
 
 -- a field of a + b bytes is the field of its first a and, above it, that of the b after them
@@ -24,6 +24,11 @@ unfolding field
 field_split zero b s at = rw (zero-add b, add-zero at) (omega arith)
 field_split (suc a) b s at =
     rw (suc-add a b) (rw (field_split a b s (suc at)) (rw (suc-add at a, add-suc at a, pow-suc, mul_comm (256 ^ a) 256) (rw (mul_assoc 256 (256 ^ a)) (omega arith))))
+
+-- a field of one byte is the byte
+pub field_one : (s : List ℕ) (at : ℕ) → field 1 s at ≡ get_or s at 0
+unfolding field
+field_one s at = omega arith
 
 -- a field of a part is the field of the whole, further on
 pub field_part : (w : ℕ) (s : List ℕ) (k n at : ℕ) → at + w ≤ n → field w (take n (drop k s)) at ≡ field w s (k + at)
@@ -62,6 +67,15 @@ little_endian_split zero b n = rw (zero-add, div-one)
 little_endian_split (suc a) b n =
     rw (suc-add a b) (rw (little_endian_split a b (n / 256)) (rw (div-div-eq-div-mul, pow-suc, mul_comm (256 ^ a) 256)))
 
+-- the w lowest bytes of n are those of its remainder by 256 ^ w
+pub little_endian_mod : (w n : ℕ) → little_endian w (n % 256 ^ w) ≡ little_endian w n
+unfolding little_endian
+little_endian_mod zero n = refl
+little_endian_mod (suc w) n =
+    let low : n % 256 < 256 = omega arith in
+    rw (pow-suc, mod-mul n {m = 256 ^ w} {c = 256} (one-le-pow w 256 (lit< tt)) (lit< tt))
+    (rw (digits_mod (n / 256 % 256 ^ w) low, digits_div (n / 256 % 256 ^ w) low, little_endian_mod w (n / 256)))
+
 -- there are w of them, each below 256
 pub length_little_endian : (w n : ℕ) → length (little_endian w n) ≡ w
 unfolding little_endian
@@ -83,6 +97,12 @@ field_little_endian (suc w) n rest =
 
 pub field_back : (w n : ℕ) (rest : List ℕ) → n < 256 ^ w → field w (little_endian w n ++ rest) 0 ≡ n
 field_back w n rest h = field_little_endian w n rest ∙ mod-eq_of_lt h
+
+-- a number of a + b bytes is stored by storing its a lowest bytes and then the others
+pub sets_split : (a b : ℕ) (d : List ℕ) (at n : ℕ) →
+    sets (sets d at (little_endian a (n % 256 ^ a))) (at + a) (little_endian b (n / 256 ^ a)) ≡ sets d at (little_endian (a + b) n)
+sets_split a b d at n =
+    rw (little_endian_mod a n, little_endian_split a b n, ← (sets_append d at (little_endian a n) (little_endian b (n / 256 ^ a))), length_little_endian a n)
 
 -- a field of w bytes and n zeros is that of the w bytes
 field_and_zeros : {k : ℕ} (w n : ℕ) (p q : List ℕ) → k ≡ w + n → length p ≡ w → ((i : ℕ) → get_or q i 0 ≡ 0) → field k (p ++ q) 0 ≡ field w p 0

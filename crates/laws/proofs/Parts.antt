@@ -1,15 +1,19 @@
 -- Laws of parts and of blocks of one length. Each is stated over the offset and the length.
-use mathlib.Core.Path.{◌≡◌, sym, ap, ap₂, ◌∙◌}
-use mathlib.Core.List.{List, ◌++◌, append_assoc}
+use mathlib.Core.Path.{◌≡◌, refl, sym, ap, ap₂, ◌∙◌}
+use mathlib.Core.Bool.{false}
+use mathlib.Core.List.{List, ◌++◌, append_assoc, append-nil}
 use Prim.Native.Nat.{ℕ, ◌+◌, ◌-◌, ◌<◌, ◌≤◌, min}
 use native.Mathlib.Omega.{arith}
-use lib.ListN.{replicate, length, take, drop, get_or, length-drop, length-replicate, get_or-replicate, replicate-append-replicate}
+use lib.ListN.{replicate, length, take, drop, get_or, set, length-set, length-drop, length-replicate, get_or-replicate, replicate-append-replicate}
 use lib.Dec.{ltb}
-use lib.Seq.{take_all, length-take-le, take-add, take_at, drop_at, take-append-le, drop-append-le, take-append-add, drop-append-add, slice}
+use lib.Seq.{drop-length, take_all, length-take-le, take-add, take_at, drop_at, take-append-le, drop-append-le, take-append-add, drop-append-add, slice}
 use borrow.Author.Tests.{ltb-true, ltb-false}
+use borrow.Author.Fill.{fill_more}
 use Rattle.std.proofs.lemmas.List.{take-append-drop}
+use Rattle.laws.specs.Lists.{is_empty}
 use Rattle.laws.specs.Parts.{part, with_part, zeros}
-use Rattle.laws.proofs.Lists.{decide}
+use Rattle.laws.proofs.Tests.{ne_true}
+use Rattle.laws.proofs.Lists.{decide, empty_is}
 
 -- Zeros.
 pub zero_length : (n : ℕ) → length (zeros n) ≡ n
@@ -23,6 +27,30 @@ zero_at n i h = get_or-replicate {A = ℕ} n i 0 0 h
 pub zeros_append : (m n : ℕ) → zeros m ++ zeros n ≡ zeros (m + n)
 unfolding zeros
 zeros_append m n = replicate-append-replicate {A = ℕ} m n 0
+
+-- A list that is being filled with zeros: the first i are there, and the rest is as it came.
+pub record Zeroed (old s : List ℕ) (i : ℕ) : Type 0 where
+  pub up_to : i ≤ length old
+  pub front : s ≡ zeros i ++ drop i old
+  pub as_long : length s ≡ length old
+
+pub zeroed_none : (old : List ℕ) → Zeroed old old 0
+unfolding zeros
+zeroed_none old = record { up_to = omega arith; front = refl; as_long = refl }
+
+pub zeroed_more : {old s : List ℕ} {i : ℕ} → Zeroed old s i → i < length s → Zeroed old (set s i 0) (i + 1)
+unfolding zeros
+zeroed_more {old} {s} {i} z h =
+    let below : i < length old = omega (arith, z.as_long, h) in record {
+      up_to = omega (arith, below);
+      front = ap (λ (x : List ℕ). set x i 0) z.front ∙ fill_more i 0 old below;
+      as_long = length-set s i 0 ∙ z.as_long;
+    }
+
+pub zeroed_all : {old s : List ℕ} {i : ℕ} → Zeroed old s i → length s ≤ i → s ≡ zeros (length old)
+zeroed_all {old} {s} {i} z h =
+    let end : i ≡ length old = omega (arith, z.up_to, z.as_long, h) in
+    z.front ∙ rw (end, drop-length old) (append-nil (zeros (length old)))
 
 -- what std's `fill` leaves
 pub filled : {s : List ℕ} (n : ℕ) → s ≡ replicate n 0 → s ≡ zeros n
@@ -84,3 +112,7 @@ take_most {r} n m l e h =
     decide (ltb m n)
     (λ f. let above = ltb-true m n f in take_all r l (omega arith) ∙ sym (take_all n l (omega arith)))
     (λ f. let below = ltb-false m n f in ap (λ (k : ℕ). take k l) (let same : r ≡ n = omega arith in same))
+
+-- what is read is not empty where there is something to read
+pub take_some : (n : ℕ) (l : List ℕ) → (n ≡ 0 → ⊥) → n ≤ length l → is_empty (take n l) ≡ false
+take_some n l ne h = ne_true (is_empty (take n l)) (λ e. ne (sym (length-take-le n l h) ∙ ap length (empty_is (take n l) e)))

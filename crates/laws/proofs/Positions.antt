@@ -10,7 +10,7 @@ use lib.ListN.{length, get_or}
 use Rattle.laws.specs.Lists.{position, later}
 use Rattle.laws.specs.Tests.{lowest_below}
 use Rattle.laws.proofs.Lists.{decide}
-use Rattle.laws.proofs.Tests.{lowest_below_lem, lowest_holds, lowest_from, lowest_ext}
+use Rattle.laws.proofs.Tests.{lowest_found, lowest_below_lem, lowest_holds, lowest_from, lowest_ext}
 
 -- what was found in a list is found one place later in a list with one element more
 pub later_some : (o : Option ℕ) (k : ℕ) → later o ≡ Some k → (j : ℕ) × (o ≡ Some j) × (k ≡ suc j)
@@ -52,6 +52,12 @@ module _ {A : Type 0} (p : A → Bool) (d : A) where
   module _ (l : List A) (n : ℕ) (long : length l ≡ n) where
     at_places : position p l ≡ lowest_below n (λ i. p (get_or l i d))
     at_places = position_lowest l ∙ ap (λ (m : ℕ). lowest_below m (λ i. p (get_or l i d))) long
+
+    pub position_at : (i : ℕ) → i < n → lowest_below i (λ j. p (get_or l j d)) ≡ None → p (get_or l i d) ≡ true → position p l ≡ Some i
+    position_at i h e t = at_places ∙ lowest_found (λ j. p (get_or l j d)) n i h e t
+
+    pub position_none : lowest_below n (λ j. p (get_or l j d)) ≡ None → position p l ≡ None
+    position_none e = at_places ∙ e
 
     -- what std's `find` over the numbers of the places finds, by a test q that at each place tells whether its element passes
     pub position_from : (q : ℕ → Bool) → ((i : ℕ) → i < n → q i ≡ p (get_or l i d)) → (r : Option ℕ)

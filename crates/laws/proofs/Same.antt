@@ -2,15 +2,17 @@
 use mathlib.Core.Path.{◌≡◌, refl, sym, ap, ◌∙◌}
 use mathlib.Core.Bool.{true, false, ◌&&◌, and_assoc, false≢true}
 use mathlib.Core.List.{List, [], ◌∷◌, ◌++◌}
-use Prim.Native.Nat.{ℕ, ◌≤◌}
+use Prim.Native.Nat.{ℕ, ◌<◌, ◌≤◌}
 use native.Mathlib.Omega.{arith}
 use lib.Dec.{eqb}
-use lib.ListN.{length, take, drop, take-append-drop}
-use lib.Seq.{length-take-le}
+use lib.ListN.{length, get_or, take, drop, take-append-drop}
+use lib.Seq.{length-take-le, ext_get_or}
 use borrow.Author.Tests.{eqb-true}
 use Rattle.laws.specs.Lists.{same}
+use Rattle.laws.specs.Parts.{zeros}
 use Rattle.laws.proofs.Tests.{ne_true, both, and_left, and_right}
 use Rattle.laws.proofs.Lists.{eqb_same}
+use Rattle.laws.proofs.Parts.{zero_length, zero_at}
 
 pub same_refl : (a : List ℕ) → same a a ≡ true
 unfolding same
@@ -32,6 +34,16 @@ same_eq a b e = rw e (same_refl b)
 
 pub same_ne : (a b : List ℕ) → (a ≡ b → ⊥) → same a b ≡ false
 same_ne a b h = ne_true (same a b) (λ e. h (same_true a b e))
+
+-- zeros: where each number is 0, and then each is
+module _ (l : List ℕ) where
+  pub zero_true : ((j : ℕ) → j < length l → get_or l j 0 ≡ 0) → same l (zeros (length l)) ≡ true
+  zero_true f =
+      same_eq l (zeros (length l))
+      (ext_get_or 0 l (zeros (length l)) (sym (zero_length (length l))) (λ i h. f i h ∙ sym (zero_at (length l) i h)))
+
+  pub zero_here : (i : ℕ) → i < length l → same l (zeros (length l)) ≡ true → get_or l i 0 ≡ 0
+  zero_here i h e = ap (λ (x : List ℕ). get_or x i 0) (same_true l (zeros (length l)) e) ∙ zero_at (length l) i h
 
 -- lists side by side, and a list that is cut at n
 pub same_append : (a c b d : List ℕ) → length a ≡ length c → same (a ++ b) (c ++ d) ≡ same a c && same b d

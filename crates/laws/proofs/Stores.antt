@@ -20,6 +20,16 @@ sets_append d i (x ∷ xs) ys = rw (add-suc i (length xs), ← suc-add i (length
 pub sets_next : (d : List ℕ) (i n : ℕ) (xs ys : List ℕ) → length xs ≡ n → sets (sets d i xs) (i + n) ys ≡ sets d i (xs ++ ys)
 sets_next d i n xs ys h = rw (← h) (sets_append d i xs ys)
 
+-- four runs of stores, each a number of places from the first
+pub sets_four : (d : List ℕ) {d₁ d₂ d₃ d₄ : List ℕ} (i k l m : ℕ) (a b c e : List ℕ) → length a ≡ k → length a + length b ≡ l → length a + length b + length c ≡ m
+    → d₁ ≡ sets d i a → d₂ ≡ sets d₁ (i + k) b → d₃ ≡ sets d₂ (i + l) c → d₄ ≡ sets d₃ (i + m) e → d₄ ≡ sets d i (a ++ (b ++ (c ++ e)))
+sets_four d i k l m a b c e x y z p q r s =
+    s ∙ rw (r, q, p)
+    (rw (sets_next d i k a b x)
+    (rw (sets_next d i l (a ++ b) c (rw length-append y))
+    (rw (sets_next d i m (a ++ b ++ c) e (rw (length-append, length-append) z))
+    (simp append_assoc))))
+
 -- the rest of a list, as a part that starts in the middle
 pub rest_part : (k : ℕ) (s : List ℕ) → take (length s - k) (drop k s) ≡ drop k s
 rest_part k s = take_all (length s - k) (drop k s) (rw length-drop (omega arith))

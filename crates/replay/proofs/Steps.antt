@@ -94,6 +94,13 @@ module _ (L : Layout) (t line : List ℕ) {empty : Bool} (is : empty ≡ is_empt
   unfolding last_step
   end_line e w = rw (was_false is e) w
 
+-- what a call did, of an equal call
+pub as_call : {c d : Call} {r : Fed} {t held out out' : List ℕ} → c ≡ d → Did c r t held out out' → Did d r t held out out'
+as_call {r = r} {t} {held} {out} {out'} e x = subst (λ (y : Call). Did y r t held out out') e x
+
+pub as_logged : {s u : Logged} {r : ℕ} {t out out' : List ℕ} → s ≡ u → Logs s r t out out' → Logs u r t out out'
+as_logged {r = r} {t} {out} {out'} e x = subst (λ (y : Logged). Logs y r t out out') e x
+
 -- a call uses no more than its piece has, and a byte or more where it has any
 cond_used : (b : Bool) (x y : Call) (n : ℕ) → x.used ≡ n → y.used ≡ n → (cond b x y).used ≡ n
 cond_used true x y n e f = e
