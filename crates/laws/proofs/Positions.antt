@@ -4,7 +4,7 @@ use native.Mathlib.Omega.{arith}
 use mathlib.Core.Path.{◌≡◌, refl, sym, ap, ◌∙◌, subst}
 use mathlib.Core.Bool.{Bool, true, false, cond}
 use Rattle.std.specs.Prelude.{Option, None, Some, MatchOption}
-use Rattle.laws.specs.Lists.{otherwise}
+use Rattle.std.specs.Option.{option_or}
 use mathlib.Core.List.{List, [], ◌∷◌, map}
 use lib.ListN.{length, get_or}
 use Rattle.laws.specs.Lists.{position, later}
@@ -33,11 +33,11 @@ position_map p f (x ∷ l) = ap (λ (o : Option ℕ). cond (p (f x)) (Some 0) (l
 
 module _ {A : Type 0} (p : A → Bool) (d : A) where
   lowest_front : (q : ℕ → Bool) (n : ℕ) → lowest_below (suc n) q ≡ cond (q 0) (Some 0) (later (lowest_below n (λ i. q (suc i))))
-  unfolding lowest_below otherwise
+  unfolding lowest_below
   lowest_front q zero = refl
-  lowest_front q (suc n) = ap (λ (o : Option ℕ). otherwise o (cond (q (suc n)) (Some (suc n)) None)) (lowest_front q n) ∙ of (q 0) (lowest_below n (λ i. q (suc i))) (q (suc n))
+  lowest_front q (suc n) = ap (λ (o : Option ℕ). option_or o (cond (q (suc n)) (Some (suc n)) None)) (lowest_front q n) ∙ of (q 0) (lowest_below n (λ i. q (suc i))) (q (suc n))
     where
-      of : (a : Bool) (o : Option ℕ) (c : Bool) → otherwise (cond a (Some 0) (later o)) (cond c (Some (suc n)) None) ≡ cond a (Some 0) (later (otherwise o (cond c (Some n) None)))
+      of : (a : Bool) (o : Option ℕ) (c : Bool) → option_or (cond a (Some 0) (later o)) (cond c (Some (suc n)) None) ≡ cond a (Some 0) (later (option_or o (cond c (Some n) None)))
       of true o c = refl
       of false (Some j) c = refl
       of false None true = refl

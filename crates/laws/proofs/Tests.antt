@@ -2,7 +2,6 @@
 use mathlib.Core.Path.{◌≡◌, refl, sym, ◌∙◌}
 use mathlib.Core.Bool.{Bool, true, false, not, ◌&&◌, ◌||◌, and-false, and-eq-true_iff, true≢false, false≢true}
 use Rattle.std.specs.Prelude.{Option, None, Some, MatchOption}
-use Rattle.laws.specs.Lists.{otherwise}
 use Prim.Native.Nat.{ℕ, zero, suc, ◌+◌, ◌≤◌, ◌<◌}
 use native.Mathlib.Numerals.{add-one}
 use native.Mathlib.Decide.{le_ind}
@@ -90,22 +89,22 @@ module _ (p : ℕ → Bool) where
   lowest_none = refl
 
   pub lowest_more : (i : ℕ) → lowest_below i p ≡ None → p i ≡ false → lowest_below (i + 1) p ≡ None
-  unfolding lowest_below otherwise
+  unfolding lowest_below
   lowest_more i h e = rw (add-one i) (rw (h, e))
 
   lowest_hit : (i : ℕ) → lowest_below i p ≡ None → p i ≡ true → lowest_below (suc i) p ≡ Some i
-  unfolding lowest_below otherwise
+  unfolding lowest_below
   lowest_hit i h e = rw (h, e)
 
   lowest_on : (i n : ℕ) → lowest_below n p ≡ Some i → lowest_below (suc n) p ≡ Some i
-  unfolding lowest_below otherwise
+  unfolding lowest_below
   lowest_on i n h = rw h
 
   pub lowest_found : (n i : ℕ) → i < n → lowest_below i p ≡ None → p i ≡ true → lowest_below n p ≡ Some i
   lowest_found n i h e t = le_ind (λ (m : ℕ). lowest_below m p ≡ Some i) (lowest_hit i e t) (λ m _ r. lowest_on i m r) n h
 
   found : (n k : ℕ) → lowest_below n p ≡ Some k → (k < n) × (p k ≡ true)
-  unfolding lowest_below otherwise
+  unfolding lowest_below
   found zero k e = absurd (let z : ◌≡◌ {A = ℕ} 0 1 = cc in omega arith)
   found (suc n) k e = go (lowest_below n p) refl (p n) refl (found n k)
     where
@@ -132,7 +131,7 @@ module _ (p : ℕ → Bool) where
 
 -- two tests that agree below the bound
 pub lowest_ext : (p q : ℕ → Bool) (n : ℕ) → ((i : ℕ) → i < n → p i ≡ q i) → lowest_below n p ≡ lowest_below n q
-unfolding lowest_below otherwise
+unfolding lowest_below
 lowest_ext p q zero h = refl
 lowest_ext p q (suc n) h = rw (lowest_ext p q n (λ i l. h i (omega arith)), h n (omega arith))
 

@@ -38,11 +38,6 @@ module _ {A : Type 0} where
   is_none None = true
   is_none (Some x) = false
 
-  -- the value where there is one, else the other
-  unfoldable pub otherwise : Option A → Option A → Option A
-  otherwise None o = o
-  otherwise (Some x) o = Some x
-
   -- the value as a list of one, and no value as the empty list
   abbrev pub to_list : Option A → List A
   to_list None = []

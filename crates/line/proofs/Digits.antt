@@ -8,7 +8,6 @@ use native.Mathlib.Omega.{arith}
 use lib.Dec.{ltb}
 use lib.ListN.{length, get_or, take, drop}
 use borrow.Author.Tests.{ltb-true, lt-ltb}
-use Rattle.std.specs.Char.{is_ascii_hexdigit}
 use Rattle.std.specs.List.{list_all}
 use Rattle.laws.specs.Lists.{all_of}
 use Rattle.laws.proofs.Tests.{never, ne_true, both, and_left, and_right, within_true, within_above, within_bounds}
@@ -17,50 +16,12 @@ use Rattle.laws.proofs.Lists.{decide, all_true}
 use Rattle.laws.proofs.Pieces.{pieces_length}
 use Rattle.line.specs.Hex.{digit_of, is_digit, is_hex, hex_bytes, hex_pair, hex_text}
 
--- the number of a digit by the range that it is in; one that is in neither of the first two is in the third
-
--- what a test chooses
-chosen : (t : Bool) (x y : ℕ) {z : ℕ} → t ≡ true → z ≡ x → z ≡ cond t x y
-chosen t x y e f = rw e f
-
-passed : (t : Bool) (x y : ℕ) {z : ℕ} → t ≡ false → z ≡ y → z ≡ cond t x y
-passed t x y e f = rw e f
-
-pub of_decimal : {b : ℕ} → 48 ≤ b → b ≤ 57 → b - 48 ≡ digit_of b
-unfolding digit_of
-of_decimal {b} h k = chosen _ _ _ (within_true b 48 57 h k) refl
-
-pub of_upper : {b : ℕ} → 65 ≤ b → b ≤ 70 → b - 65 + 10 ≡ digit_of b
-unfolding digit_of
-of_upper {b} h k = passed _ _ _ (within_above b 48 57 (omega arith)) (chosen _ _ _ (within_true b 65 70 h k) (omega arith))
-
-pub of_lower : {b : ℕ} → is_digit b ≡ true → (48 ≤ b → b ≤ 57 → ⊥) → (65 ≤ b → b ≤ 70 → ⊥) → (97 ≤ b) × (b - 97 + 10 ≡ digit_of b)
-unfolding digit_of
-of_lower {b} e x y =
-    let d = ne_true (within b 48 57) (λ l. let w = within_bounds b 48 57 l in x w.0 w.1) in
-    let u = ne_true (within b 65 70) (λ l. let w = within_bounds b 65 70 l in y w.0 w.1) in
-    decide (within b 97 102)
-    (λ l. let bounds = within_bounds b 97 102 l in (bounds.0, rw (d, u, l) (omega (arith, bounds.0))))
-    (λ l. never (sym e ∙ rw (d, u, l) refl))
-
--- the library's test of a digit is the same
-same_digit : (b : ℕ) → is_ascii_hexdigit b ≡ is_digit b
-unfolding digit_of within
-same_digit b =
-    decide (within b 48 57)
-    (λ d. let w = within_bounds b 48 57 d in rw d (sym (lt-ltb (b - 48) 16 (omega arith))))
-    (λ d. decide (within b 65 70)
-    (λ u. let w = within_bounds b 65 70 u in rw (d, u) (sym (lt-ltb (b - 55) 16 (omega arith))))
-    (λ u. decide (within b 97 102)
-    (λ l. let w = within_bounds b 97 102 l in rw (d, u, l) (sym (lt-ltb (b - 87) 16 (omega arith))))
-    (λ l. rw (d, u, l))))
-
 -- an even number of bytes is hexadecimal where each is a digit, and an odd number never is
-pub hex_by_digits : (s : List ℕ) → length s % 2 ≡ 0 → list_all is_ascii_hexdigit s ≡ is_hex s
+pub hex_by_digits : (s : List ℕ) → length s % 2 ≡ 0 → list_all is_digit s ≡ is_hex s
 unfolding is_hex
 hex_by_digits [] e = refl
 hex_by_digits (h ∷ []) e = absurd (omega arith)
-hex_by_digits (h ∷ l ∷ s) e = rw (same_digit h, same_digit l, hex_by_digits s (omega arith))
+hex_by_digits (h ∷ l ∷ s) e = rw (hex_by_digits s (omega arith))
 
 pub hex_odd : (s : List ℕ) → (length s % 2 ≡ 0 → ⊥) → false ≡ is_hex s
 unfolding is_hex

@@ -2,7 +2,26 @@
 ghost use Rattle.std.specs.Prelude.{◌≡◌, true, ◌+◌, ◌*◌, ◌<◌, ◌≤◌, length, get_or};
 ghost use Rattle.std.proofs.lemmas.List.Edits.{sets};
 ghost use Rattle.laws.specs.Stores.{Wrote};
-ghost use Rattle.line.specs.Hex.{digit_of, is_digit, is_hex, hex_bytes, lower_digit, hex_pair, hex_text};
+ghost use Rattle.line.specs.Hex.{digit_of, is_hex, hex_bytes, lower_digit, hex_pair, hex_text};
+
+// The number of each digit, sixteen bytes to a line; 16 for a byte that is none.
+const DIGITS: [u8; 256] = *b"\
+    \x10\x10\x10\x10\x10\x10\x10\x10\x10\x10\x10\x10\x10\x10\x10\x10\
+    \x10\x10\x10\x10\x10\x10\x10\x10\x10\x10\x10\x10\x10\x10\x10\x10\
+    \x10\x10\x10\x10\x10\x10\x10\x10\x10\x10\x10\x10\x10\x10\x10\x10\
+    \x00\x01\x02\x03\x04\x05\x06\x07\x08\x09\x10\x10\x10\x10\x10\x10\
+    \x10\x0a\x0b\x0c\x0d\x0e\x0f\x10\x10\x10\x10\x10\x10\x10\x10\x10\
+    \x10\x10\x10\x10\x10\x10\x10\x10\x10\x10\x10\x10\x10\x10\x10\x10\
+    \x10\x0a\x0b\x0c\x0d\x0e\x0f\x10\x10\x10\x10\x10\x10\x10\x10\x10\
+    \x10\x10\x10\x10\x10\x10\x10\x10\x10\x10\x10\x10\x10\x10\x10\x10\
+    \x10\x10\x10\x10\x10\x10\x10\x10\x10\x10\x10\x10\x10\x10\x10\x10\
+    \x10\x10\x10\x10\x10\x10\x10\x10\x10\x10\x10\x10\x10\x10\x10\x10\
+    \x10\x10\x10\x10\x10\x10\x10\x10\x10\x10\x10\x10\x10\x10\x10\x10\
+    \x10\x10\x10\x10\x10\x10\x10\x10\x10\x10\x10\x10\x10\x10\x10\x10\
+    \x10\x10\x10\x10\x10\x10\x10\x10\x10\x10\x10\x10\x10\x10\x10\x10\
+    \x10\x10\x10\x10\x10\x10\x10\x10\x10\x10\x10\x10\x10\x10\x10\x10\
+    \x10\x10\x10\x10\x10\x10\x10\x10\x10\x10\x10\x10\x10\x10\x10\x10\
+    \x10\x10\x10\x10\x10\x10\x10\x10\x10\x10\x10\x10\x10\x10\x10\x10";
 
 // The digit of each number.
 const LOWER: [u8; 16] = *b"0123456789abcdef";
@@ -11,7 +30,7 @@ const LOWER: [u8; 16] = *b"0123456789abcdef";
 pub fn is_hex(line: &[u8]) -> bool
     ensures { result ≡ is_hex line.now }
 {
-    line.len() % 2 == 0 && line.iter().all(|b| b.is_ascii_hexdigit())
+    line.len() % 2 == 0 && line.iter().all(|b| digit(*b) < 16)
 }
 
 // Stores the bytes that a line's digits stand for from the start of `out`.
@@ -32,16 +51,11 @@ pub fn byte_at(line: &[u8], i: usize) -> u8
     16 * digit(line[2 * i]) + digit(line[2 * i + 1])
 }
 
-// The number of a digit.
+// The number of a digit; 16 for any other byte.
 fn digit(b: u8) -> u8
-    requires { is_digit b ≡ true }
     ensures { result ≡ digit_of b }
 {
-    match b {
-        b'0'..=b'9' => b - b'0',
-        b'A'..=b'F' => b - b'A' + 10,
-        _ => b - b'a' + 10,
-    }
+    DIGITS[usize::from(b)]
 }
 
 // Writes the text of bytes; returns the place after it.

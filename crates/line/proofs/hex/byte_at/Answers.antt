@@ -3,15 +3,8 @@ use mathlib.Core.Path.{sym}
 use Prim.Native.Nat.{◌+◌, ◌*◌}
 use native.Mathlib.Numerals.{add-one}
 use native.Mathlib.Omega.{arith}
-use borrow.Author.Tests.{lt-ltb}
 use Rattle.line.proofs.Digits.{digit_at, byte_is}
 use Rattle.line.proofs.hex.byte_at.Goals as goal
-
-pub digit-requires : goal.digit-requires
-digit-requires c = lt-ltb _ 16 (digit_at c.args.line.now (2 * c.args.i) c.requires.0 (omega arith))
-
-pub digit-requires-2 : goal.digit-requires-2
-digit-requires-2 c = lt-ltb _ 16 (digit_at c.args.line.now (2 * c.args.i + 1) c.requires.0 (omega arith))
 
 pub overflow_mul-result : goal.overflow_mul-result
 overflow_mul-result c = omega (arith, digit_at c.args.line.now (2 * c.args.i) c.requires.0 (omega arith))
