@@ -66,7 +66,7 @@ fn finish_in(line: &[u8]) -> Option<Frame>
     ensures fits { count_of result ≤ 4184 }
     ensures means { (buffer : List ℕ) → decoded result buffer ≡ finish_in (hex_bytes line.now) }
 {
-    let Some(bytes) = bytes_of::<FINISH_BYTES>(line) else {
+    let Some(bytes) = array_of::<FINISH_BYTES>(line) else {
         return None;
     };
     Some(Frame::Finish(FinishReport {
@@ -84,7 +84,7 @@ fn drained_in(line: &[u8]) -> Option<Frame>
     ensures fits { count_of result ≤ 4184 }
     ensures means { (buffer : List ℕ) → decoded result buffer ≡ drained_in (hex_bytes line.now) }
 {
-    let Some(bytes) = bytes_of::<DRAINED_BYTES>(line) else {
+    let Some(bytes) = array_of::<DRAINED_BYTES>(line) else {
         return None;
     };
     Some(Frame::Drained {
@@ -93,7 +93,7 @@ fn drained_in(line: &[u8]) -> Option<Frame>
 }
 
 // The bytes that a line's digits stand for, if they are so many.
-fn bytes_of<const N: usize>(line: &[u8]) -> Option<[u8; N]>
+fn array_of<const N: usize>(line: &[u8]) -> Option<[u8; N]>
     requires { is_hex line.now ≡ true }
     ensures { result ≡ of_length N (hex_bytes line.now) }
 {

@@ -55,7 +55,7 @@ pub fn byte_at(line: &[u8], i: usize) -> u8
 fn digit(b: u8) -> u8
     ensures { result ≡ digit_of b }
 {
-    DIGITS[usize::from(b)]
+    DIGITS[b as usize]
 }
 
 // Writes the text of bytes; returns the place after it.

@@ -1,10 +1,10 @@
--- `line::decoding::bytes_of` meets its contract: the array is the line's bytes where they fill it.
+-- `line::decoding::array_of` meets its contract: the array is the line's bytes where they fill it.
 use Prim.Native.Nat.{ℕ}
 use native.Mathlib.Omega.{arith}
 use lib.ListN.{length-replicate}
 use Rattle.line.proofs.Digits.{hex_even}
 use Rattle.line.proofs.Frames.{length_other, length_is}
-use Rattle.line.proofs.decoding.bytes_of.Goals as goal
+use Rattle.line.proofs.decoding.array_of.Goals as goal
 
 pub returns-then-line : goal.returns-then-line
 returns-then-line g c = length_other _ c.args.line.now c.if-line.true
