@@ -8,7 +8,7 @@ mod ranges;
 mod report;
 
 pub use codes::{AnswerType, ErrorCode};
-pub use outcome::{Outcome, Refusal};
+pub use outcome::{Outcome, Refusal, refused};
 pub use queue_type::{NoQueue, QueueType};
 pub use ranges::{coded_good, extent_good};
 pub use report::FinishReport;

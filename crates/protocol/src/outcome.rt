@@ -22,7 +22,17 @@ pub struct Outcome {
     pub written: u32,
 }
 
-// A refusal writes nothing.
+// A refusal: nothing is written.
+pub fn refused(number: u32) -> Outcome
+    ensures { (result.refusal ≡ number) × (result.written ≡ 0) }
+{
+    Outcome {
+        refusal: number,
+        written: 0,
+    }
+}
+
+// A step that went well, or its refusal.
 impl From<Result<u32, Refusal>> for Outcome {
     ghost from_gives = { λ r o. o ≡ outcome_of r };
 
@@ -32,10 +42,7 @@ impl From<Result<u32, Refusal>> for Outcome {
                 refusal: 0,
                 written,
             },
-            Err(refusal) => Outcome {
-                refusal: refusal as u32,
-                written: 0,
-            },
+            Err(refusal) => refused(refusal as u32),
         }
     }
 }
