@@ -30,12 +30,20 @@ pub struct Parameters {
     pub rate: u32,
 }
 
-// Writes an answer that is a type and the stream number, 16 bytes: plain success, a drain that ended, an error.
-pub fn put_plain(out: &mut [u8], at: usize, ticket: u32, kind: AnswerType, stream: u32) -> usize
+// Writes an answer that is a code and the stream number, 16 bytes.
+pub fn put_plain(out: &mut [u8], at: usize, ticket: u32, code: u32, stream: u32) -> usize
+    requires { at + 16 ≤ length out.old }
+    ensures { Wrote out.old out.new at result (plain_bytes ticket code stream) }
+{
+    put_words(out, at, &[ticket, 8, code, stream])
+}
+
+// The same with the number of a type of answers: plain success, a drain that ended, an error.
+pub fn put_typed(out: &mut [u8], at: usize, ticket: u32, kind: AnswerType, stream: u32) -> usize
     requires { at + 16 ≤ length out.old }
     ensures { Wrote out.old out.new at result (plain_bytes ticket (answer_number kind) stream) }
 {
-    put_words(out, at, &[ticket, 8, kind.into(), stream])
+    put_plain(out, at, ticket, kind.into(), stream)
 }
 
 // Writes the answer to a buffer of either queue, 32 bytes.

@@ -21,7 +21,7 @@ pub fn ended_answer(block: &[u32], ends: bool, at: usize, stream: u32, room: &mu
     let Some(ticket) = table::pending_drain(block) else {
         return at;
     };
-    answer::put_plain(room, at, ticket, AnswerType::Success, stream)
+    answer::put_typed(room, at, ticket, AnswerType::Success, stream)
 }
 
 // Drops the pending drain from the block, where the step ends it.

@@ -29,7 +29,7 @@ pub fn drained(block: &mut [u32], stream: u32, room: &mut [u8]) -> Result<u32, R
         return Err(Refusal::UnexpectedReport);
     }
     table::set_drain(block, None);
-    let written = answer::put_plain(room, 0, ticket, AnswerType::Success, stream);
+    let written = answer::put_typed(room, 0, ticket, AnswerType::Success, stream);
     Ok(written as u32)
 }
 

@@ -35,7 +35,7 @@ fn clear_answers(block: &[u32], queue: QueueType, asked: Asked, room: &mut [u8])
     let stopped = stop_queue(block, queue, 0, asked.stream, room);
     let ends = queue.is_input();
     let ended = ended_answer(block, ends, stopped, asked.stream, room);
-    answer::put_plain(room, ended, asked.ticket, AnswerType::Success, asked.stream)
+    answer::put_typed(room, ended, asked.ticket, AnswerType::Success, asked.stream)
 }
 
 // Changes a block as a clear of the queue does.
@@ -67,7 +67,7 @@ fn destroy_answers(block: &[u32], asked: Asked, room: &mut [u8]) -> usize
     let inputs = stop_queue(block, QueueType::Input, 0, asked.stream, room);
     let outputs = stop_queue(block, QueueType::Output, inputs, asked.stream, room);
     let drain = ended_answer(block, true, outputs, asked.stream, room);
-    answer::put_plain(room, drain, asked.ticket, AnswerType::Success, asked.stream)
+    answer::put_typed(room, drain, asked.ticket, AnswerType::Success, asked.stream)
 }
 
 // Answers the Queued buffers of one of a block's queues as stopped.

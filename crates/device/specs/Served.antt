@@ -49,7 +49,7 @@ pub record Erred (d : Device) (a : Asked) (f words words' room room' : List ℕ)
   pub words_stay : words' ≡ words
   pub room_stays : room' ≡ room
 
--- a command was served, or is such an error
+-- a command was served, an error written too, or is such an error
 abbrev pub Attempted : Device → Asked → (frame words words' room room' : List ℕ) → Result ℕ ErrorCode → Type 0
 Attempted d a f words words' room room' (Ok written) = Served d a.stream (command a.ticket f) words' room room' 0 written
 Attempted d a f words words' room room' (Err e) = Erred d a f words words' room room' e

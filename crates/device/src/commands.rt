@@ -7,7 +7,7 @@ ghost use Rattle.model.specs.Commands.{on_queue_of, on_named, on_live};
 ghost use Rattle.model.specs.Steps.{command};
 ghost use Rattle.protocol.specs.QueueTypes.{queue_type_of};
 ghost use Rattle.frame.specs.Meant.{queue_command_of, live_command_of, right, queue_length, least_length, verdict_for};
-ghost use Rattle.stream.specs.Replied.{BlockOf, LiveBlock, told, Tried};
+ghost use Rattle.stream.specs.Replied.{BlockOf, LiveBlock, told, Replied, Tried};
 ghost use Rattle.device.specs.Served.{Encodes, DeviceWords, Served, Attempted};
 
 use crate::places::{add_stream, live_place, settle, unusable, vacant_place};
@@ -25,7 +25,7 @@ pub fn command(t: &mut [u32], ticket: u32, frame: &[u8], room: &mut [u8]) -> usi
     let asked = Asked { stream, ticket };
     match carry_out(t, asked, frame, room) {
         Ok(written) => written,
-        Err(error) => answer::put_plain(room, 0, ticket, AnswerType::Error(error), stream),
+        Err(error) => answer::put_typed(room, 0, ticket, AnswerType::Error(error), stream),
     }
 }
 
@@ -60,7 +60,7 @@ fn create(t: &mut [u32], asked: Asked, frame: &[u8], room: &mut [u8]) -> Result<
     add_stream(t, k, asked.stream, format);
     settle(t, k);
     let kind = AnswerType::Success;
-    Ok(answer::put_plain(room, 0, asked.ticket, kind, asked.stream))
+    Ok(answer::put_typed(room, 0, asked.ticket, kind, asked.stream))
 }
 
 // All other commands: to a live stream, in its block.
@@ -96,7 +96,7 @@ fn in_block(
 {
     match command {
         LiveCommand::Destroy => Ok(completion::destroy(block, asked, room)),
-        LiveCommand::Drain => stream::drain(block, asked),
+        LiveCommand::Drain => Ok(stream::drain(block, asked, room)),
         LiveCommand::Control => Err(ErrorCode::UnsupportedControl),
         LiveCommand::ToQueue(k) => to_queue(block, k, asked, frame, room),
     }
@@ -116,7 +116,7 @@ fn to_queue(
     let Ok(q) = QueueType::try_from(frame::queue_type(frame)) else {
         return Err(ErrorCode::InvalidParameter);
     };
-    in_queue(block, command, q, asked, frame, room)
+    Ok(in_queue(block, command, q, asked, frame, room))
 }
 
 // A command to a queue.
@@ -127,16 +127,16 @@ fn in_queue(
     asked: Asked,
     frame: &[u8],
     room: &mut [u8],
-) -> Result<usize, ErrorCode>
+) -> usize
     requires { (length block.old ≡ 512) × LiveBlock asked.stream block.old × (queue_length (queue_command_of command) ≤ length frame.now) × (1056 ≤ length room.old) }
-    ensures { (b : Stream) → BlockOf asked.stream block.old b → Tried (told asked frame.now b) (on_queue_of (queue_command_of command) (told asked frame.now b) b (queue_type_of q)) block.old block.new room.old room.new result }
+    ensures { (b : Stream) → BlockOf asked.stream block.old b → Replied asked.stream (on_queue_of (queue_command_of command) (told asked frame.now b) b (queue_type_of q)) block.new room.old room.new result }
 {
     match command {
         QueueCommand::CreateResource => stream::create_resource(block, asked, frame, q, room),
-        QueueCommand::QueueResource => stream::queue_resource(block, asked, frame, q),
+        QueueCommand::QueueResource => stream::queue_resource(block, asked, frame, q, room),
         QueueCommand::DestroyAll => stream::destroy_all(block, asked, q, room),
-        QueueCommand::Clear => Ok(completion::clear(block, asked, q, room)),
-        QueueCommand::GetParameters => Ok(stream::get_parameters(block, asked, q, room)),
+        QueueCommand::Clear => completion::clear(block, asked, q, room),
+        QueueCommand::GetParameters => stream::get_parameters(block, asked, q, room),
         QueueCommand::SetParameters => stream::set_parameters(block, asked, frame, q, room),
     }
 }

@@ -1,7 +1,7 @@
 -- The steps of a command to a live stream: its queues' words in the block, and the replies that its answers and its changes amount to.
 use mathlib.Core.Path.{◌≡◌, refl}
 use mathlib.Core.Bool.{true, false, ◌&&◌}
-use Rattle.std.specs.Prelude.{Option}
+use Rattle.std.specs.Prelude.{Option, Some}
 use mathlib.Core.List.{List, [], ◌∷◌}
 use Prim.Native.Nat.{ℕ, ◌+◌, ◌-◌, ◌≤◌, ◌%◌}
 use lib.ListN.{length}
@@ -13,7 +13,7 @@ use Rattle.laws.specs.Stores.{Wrote}
 use Rattle.laws.proofs.Tests.{and_left, within_bounds}
 use Rattle.laws.proofs.Stores.{wrote_none}
 use Rattle.model.specs.Device.{QueueType, Queue, Stream, occupied, queue_of, with_queue, place}
-use Rattle.model.specs.Answers.{Response, success, Answer, response_type, payload, bytes_of}
+use Rattle.model.specs.Answers.{ErrorCode as Meant, code, Response, success, failure, Answer, response_type, payload, bytes_of}
 use Rattle.model.specs.Replies.{Reply, reply, Request, fail}
 use Rattle.model.specs.Commands.{bad_extent}
 use Rattle.model.proofs.Slots.{Distinct}
@@ -78,6 +78,11 @@ module _ {n : ℕ} {v : Reply} {block room room' : List ℕ} {written : ℕ} whe
   pub succeeded : (t : ℕ) (next : Option Stream) → v ≡ reply (answer_to t n success ∷ []) next → block ≡ place_words (place n next) → Wrote room room' 0 written (plain_bytes t (response_type success) n)
       → Replied n v block room room' written
   succeeded t next e w x = answered_plain t success next refl e w x
+
+  -- an error, and a block that stays
+  pub error_answered : {b : Stream} (t : ℕ) (e : Meant) → BlockOf n block b → v ≡ reply (answer_to t n (failure e) ∷ []) (Some b) → Wrote room room' 0 written (plain_bytes t (code e) n)
+      → Replied n v block room room' written
+  error_answered {b} t e h is x = answered_plain t (failure e) (Some b) refl is h.held x
 
 -- an error that is not written yet
 pub failed : {c : Request} {v : Reply} {block room : List ℕ} (e : ErrorCode) → v ≡ fail c (error_meant e) → Failed c v block block room room e

@@ -41,7 +41,7 @@ pub record Failed (c : model.Request) (v : Reply) (block block' room room' : Lis
   pub block_stays : block' ≡ block
   pub room_stays : room' ≡ room
 
--- the command was carried out, or failed
+-- the command's reply, which may be an error, was written, or the command failed
 abbrev pub Tried : model.Request → Reply → List ℕ → List ℕ → List ℕ → List ℕ → Result ℕ ErrorCode → Type 0
 Tried c v block block' room room' (Ok written) = Replied c.stream v block' room room' written
 Tried c v block block' room room' (Err e) = Failed c v block block' room room' e

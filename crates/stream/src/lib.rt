@@ -1,10 +1,11 @@
 // The commands to a live stream that answer no buffer, each with the queue that it names: it is tested, then its change is made and its answer
-// written from the start of the room. An error changes nothing, and is written by the caller.
+// written from the start of the room.
 #![tactic(auto)]
 
 ghost use Rattle.std.specs.Prelude.{◌≡◌, List, ℕ, ◌<◌, ◌≤◌, length};
 ghost use Rattle.model.specs.Device.{Queue, Stream, occupied, present};
 ghost use Rattle.model.specs.Frames.{frame_width, frame_height, frame_rate};
+ghost use Rattle.model.specs.Replies.{Reply};
 ghost use Rattle.model.specs.Commands.{on_drain, on_create_resource, input_draining, on_queue, on_destroy_all, on_get, format_of, with_parameters, on_set};
 ghost use Rattle.laws.specs.Stores.{Wrote};
 ghost use Rattle.answer.specs.Answer.{plain_bytes};
@@ -25,8 +26,31 @@ pub struct Asked {
     pub ticket: u32,
 }
 
+// Hands on the bytes that were written, or writes the error, which changed nothing.
+fn answer_error(tried: Result<usize, ErrorCode>, asked: Asked, room: &mut [u8]) -> usize
+    requires { 16 ≤ length room.old }
+    ensures { (f before after start : List ℕ) (b : Stream) (v : Reply) → BlockOf asked.stream before b → Tried (told asked f b) v before after start room.old tried → Replied asked.stream v after start room.new result }
+{
+    match tried {
+        Ok(written) => written,
+        Err(error) => {
+            let kind = AnswerType::Error(error);
+            answer::put_typed(room, 0, asked.ticket, kind, asked.stream)
+        }
+    }
+}
+
 // 0x0103: a drain is pending from now on, unless one is pending already.
-pub fn drain(block: &mut [u32], asked: Asked) -> Result<usize, ErrorCode>
+pub fn drain(block: &mut [u32], asked: Asked, room: &mut [u8]) -> usize
+    requires { (length block.old ≡ 512) × (1056 ≤ length room.old) }
+    ensures { (f : List ℕ) (b : Stream) → BlockOf asked.stream block.old b → Replied asked.stream (on_drain (told asked f b) b) block.new room.old room.new result }
+{
+    let tried = try_drain(block, asked);
+    answer_error(tried, asked, room)
+}
+
+// The same without the answer of its error.
+fn try_drain(block: &mut [u32], asked: Asked) -> Result<usize, ErrorCode>
     requires { length block.old ≡ 512 }
     ensures { (room f : List ℕ) (b : Stream) → BlockOf asked.stream block.old b → Tried (told asked f b) (on_drain (told asked f b) b) block.old block.new room room result }
 {
@@ -39,6 +63,21 @@ pub fn drain(block: &mut [u32], asked: Asked) -> Result<usize, ErrorCode>
 
 // 0x0104: a new resource in a queue, Created, in the lowest free slot.
 pub fn create_resource(
+    block: &mut [u32],
+    asked: Asked,
+    frame: &[u8],
+    q: QueueType,
+    room: &mut [u8],
+) -> usize
+    requires { (length block.old ≡ 512) × (88 ≤ length frame.now) × (1056 ≤ length room.old) }
+    ensures { (b : Stream) → BlockOf asked.stream block.old b → Replied asked.stream (on_create_resource (told asked frame.now b) b (queue_type_of q)) block.new room.old room.new result }
+{
+    let tried = try_create_resource(block, asked, frame, q, room);
+    answer_error(tried, asked, room)
+}
+
+// The same without the answer of its error.
+fn try_create_resource(
     block: &mut [u32],
     asked: Asked,
     frame: &[u8],
@@ -76,11 +115,26 @@ fn succeed(asked: Asked, room: &mut [u8]) -> usize
     requires { 16 ≤ length room.old }
     ensures { Wrote room.old room.new 0 result (plain_bytes asked.ticket 0x0200 asked.stream) }
 {
-    answer::put_plain(room, 0, asked.ticket, AnswerType::Success, asked.stream)
+    answer::put_typed(room, 0, asked.ticket, AnswerType::Success, asked.stream)
 }
 
 // 0x0105: a resource becomes Queued and keeps the ticket and the timestamp, without an answer now.
 pub fn queue_resource(
+    block: &mut [u32],
+    asked: Asked,
+    frame: &[u8],
+    q: QueueType,
+    room: &mut [u8],
+) -> usize
+    requires { (length block.old ≡ 512) × (64 ≤ length frame.now) × (1056 ≤ length room.old) }
+    ensures { (b : Stream) → BlockOf asked.stream block.old b → Replied asked.stream (on_queue (told asked frame.now b) b (queue_type_of q)) block.new room.old room.new result }
+{
+    let tried = try_queue_resource(block, asked, frame, q);
+    answer_error(tried, asked, room)
+}
+
+// The same without the answer of its error.
+fn try_queue_resource(
     block: &mut [u32],
     asked: Asked,
     frame: &[u8],
@@ -132,7 +186,16 @@ fn input_draining(block: &[u32], q: QueueType) -> bool
 }
 
 // 0x0106: the resources of a queue without Queued buffers are freed.
-pub fn destroy_all(
+pub fn destroy_all(block: &mut [u32], asked: Asked, q: QueueType, room: &mut [u8]) -> usize
+    requires { (length block.old ≡ 512) × (1056 ≤ length room.old) }
+    ensures { (f : List ℕ) (b : Stream) → BlockOf asked.stream block.old b → Replied asked.stream (on_destroy_all (told asked f b) b (queue_type_of q)) block.new room.old room.new result }
+{
+    let tried = try_destroy_all(block, asked, q, room);
+    answer_error(tried, asked, room)
+}
+
+// The same without the answer of its error.
+fn try_destroy_all(
     block: &mut [u32],
     asked: Asked,
     q: QueueType,
@@ -167,6 +230,21 @@ pub fn get_parameters(block: &[u32], asked: Asked, q: QueueType, room: &mut [u8]
 
 // 0x0109: format, width, height and rate of a queue without Queued buffers are kept as sent.
 pub fn set_parameters(
+    block: &mut [u32],
+    asked: Asked,
+    frame: &[u8],
+    q: QueueType,
+    room: &mut [u8],
+) -> usize
+    requires { (length block.old ≡ 512) × (120 ≤ length frame.now) × (1056 ≤ length room.old) }
+    ensures { (b : Stream) → BlockOf asked.stream block.old b → Replied asked.stream (on_set (told asked frame.now b) b (queue_type_of q)) block.new room.old room.new result }
+{
+    let tried = try_set_parameters(block, asked, frame, q, room);
+    answer_error(tried, asked, room)
+}
+
+// The same without the answer of its error.
+fn try_set_parameters(
     block: &mut [u32],
     asked: Asked,
     frame: &[u8],

@@ -6,4 +6,5 @@ use Rattle.answer.proofs.put_plain.Goals as goal
 
 pub returns : goal.returns
 unfolding plain_bytes
-returns c = rw (← c.into.ensures) (wrote_words c.args.out.now (c.args.ticket ∷ 8 ∷ c.into.result ∷ c.args.stream ∷ []) c.put_words.ensures.next c.put_words.ensures.whole)
+returns c =
+    wrote_words c.args.out.now (c.args.ticket ∷ 8 ∷ c.args.code ∷ c.args.stream ∷ []) c.put_words.ensures.next c.put_words.ensures.whole

@@ -21,7 +21,7 @@ returns-in_default c =
 pub returns : goal.returns
 returns c =
     record {
-      bound = omega (arith, plain_next _ _ _ c.put_plain.ensures);
+      bound = omega (arith, plain_next _ _ _ c.put_typed.ensures);
       written = λ n b h. wrote_ended c.args.stream true c.args.ends b (sym c.if-not-ends.false)
-          (wrote_drain _ _ b.draining (sym c.in-Some.is ∙ c.pending_drain.ensures n b h.held) c.put_plain.ensures);
+          (wrote_drain _ _ b.draining (sym c.in-Some.is ∙ c.pending_drain.ensures n b h.held) c.put_typed.ensures);
     }

@@ -18,7 +18,7 @@ returns-then-not-drain_over c b h =
     (sym (c.drain_over.ensures c.args.stream b h) ∙ c.if-not-drain_over.true))
 
 pub overflow_cast-result : goal.overflow_cast-result
-overflow_cast-result c = omega (arith, plain_next _ _ _ c.put_plain-written.ensures)
+overflow_cast-result c = omega (arith, plain_next _ _ _ c.put_typed-written.ensures)
 
 pub returns : goal.returns
 returns c b h =
@@ -26,4 +26,4 @@ returns c b h =
     (drained_ends c.args.stream b _ (sym c.in-Some.is ∙ c.pending_drain.ensures c.args.stream b h.held)
     (sym (c.drain_over.ensures c.args.stream b h) ∙ c.if-not-drain_over.false))
     (c.set_drain.ensures c.args.stream b h.held)
-    (wrote_plain _ c.args.stream drain_done refl c.put_plain-written.ensures)
+    (wrote_plain _ c.args.stream drain_done refl c.put_typed-written.ensures)

@@ -17,4 +17,4 @@ returns c n b h =
     let itself = answer_to c.args.asked.ticket c.args.asked.stream success ∷ [] in
     wrote_more (stopped_answers c.args.asked.stream q (buffers q b)) (ended ++ itself) (c.stop_queue-stopped.ensures.written n b h)
     (wrote_more ended itself
-    (wrote_ended c.args.asked.stream _ (is_input q) b c.is_input-ends.ensures (c.ended_answer-ended.ensures.written n b h)) (wrote_plain c.args.asked.ticket c.args.asked.stream success refl c.put_plain.ensures))
+    (wrote_ended c.args.asked.stream _ (is_input q) b c.is_input-ends.ensures (c.ended_answer-ended.ensures.written n b h)) (wrote_plain c.args.asked.ticket c.args.asked.stream success refl c.put_typed.ensures))

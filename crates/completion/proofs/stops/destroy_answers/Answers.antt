@@ -16,4 +16,4 @@ returns c n b h =
     let itself = answer_to c.args.asked.ticket c.args.asked.stream success ∷ [] in
     wrote_more (stopped_answers c.args.asked.stream input (buffers input b)) (outputs ++ (drain ++ itself)) (c.stop_queue-inputs.ensures.written n b h)
     (wrote_more outputs (drain ++ itself) (c.stop_queue-outputs.ensures.written n b h)
-    (wrote_more drain itself (c.ended_answer-drain.ensures.written n b h) (wrote_plain c.args.asked.ticket c.args.asked.stream success refl c.put_plain.ensures)))
+    (wrote_more drain itself (c.ended_answer-drain.ensures.written n b h) (wrote_plain c.args.asked.ticket c.args.asked.stream success refl c.put_typed.ensures)))

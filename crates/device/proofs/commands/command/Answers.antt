@@ -6,4 +6,4 @@ pub returns-in-Ok : goal.returns-in-Ok
 returns-in-Ok c d h = of_stream_lem c.stream-stream.ensures (c.in-Ok.ensures d h)
 
 pub returns-in-Err : goal.returns-in-Err
-returns-in-Err c d h = of_stream_lem c.stream-stream.ensures (erred_served h _ c.args.frame.now (c.in-Err.ensures d h) c.put_plain.ensures)
+returns-in-Err c d h = of_stream_lem c.stream-stream.ensures (erred_served h _ c.args.frame.now (c.in-Err.ensures d h) c.put_typed.ensures)

@@ -48,4 +48,4 @@ returns c d h =
     (c.settle.ensures _ _ (c.add_stream.ensures.added d h new place)
     ∙ ap encode (added_back h c.args.asked.stream _ (found_within stream_places c.in-Some.is c.vacant_place.ensures.within) new place _)
     ∙ ap (λ (m : ℕ). encode (put_back c.args.asked.stream (Some (new_stream m)) d)) c.coded_format-format.ensures)
-    c.put_plain.ensures
+    c.put_typed.ensures

@@ -38,7 +38,7 @@ returns-in-Destroy c b h =
 
 pub returns-in-Drain : goal.returns-in-Drain
 returns-in-Drain c b h =
-    tried_as _ _ _ _ _ _ (meant_by c.args.asked.stream c.args.asked.ticket c.args.frame.now b c.in-Drain.is) (c.drain.ensures c.args.room.now _ b h)
+    replied_as (meant_by c.args.asked.stream c.args.asked.ticket c.args.frame.now b c.in-Drain.is) (c.drain.ensures _ b h)
 
 pub returns-in-Control : goal.returns-in-Control
 returns-in-Control c b h =

@@ -8,7 +8,7 @@ use Rattle.model.specs.Commands.{on_queue_of}
 use Rattle.frame.specs.declared.commands.QueueCommand.{QueueCommand}
 use Rattle.frame.specs.Meant.{queue_command_of, queue_length}
 use Rattle.stream.specs.Replied.{request_to}
-use Rattle.device.proofs.Served.{replied_as, tried_as}
+use Rattle.device.proofs.Served.{replied_as}
 use Rattle.device.proofs.commands.in_queue.Goals as goal
 
 meant_by : (n t : ℕ) (f : List ℕ) (b : Stream) (q : QueueType) {x k : QueueCommand} → x ≡ k → on_queue_of (queue_command_of x) (request_to n t f b) b q ≡ on_queue_of (queue_command_of k) (request_to n t f b) b q
@@ -23,7 +23,7 @@ create_resource-requires c =
 
 pub queue_resource-requires : goal.queue_resource-requires
 queue_resource-requires c =
-    (search rules, long_for c.in-QueueResource.is c.requires.2)
+    (search rules, long_for c.in-QueueResource.is c.requires.2, search rules)
 
 pub set_parameters-requires : goal.set_parameters-requires
 set_parameters-requires c =
@@ -31,15 +31,15 @@ set_parameters-requires c =
 
 pub returns-in-CreateResource : goal.returns-in-CreateResource
 returns-in-CreateResource c b h =
-    tried_as _ _ _ _ _ _ (meant_by c.args.asked.stream c.args.asked.ticket c.args.frame.now b _ c.in-CreateResource.is) (c.create_resource.ensures b h)
+    replied_as (meant_by c.args.asked.stream c.args.asked.ticket c.args.frame.now b _ c.in-CreateResource.is) (c.create_resource.ensures b h)
 
 pub returns-in-QueueResource : goal.returns-in-QueueResource
 returns-in-QueueResource c b h =
-    tried_as _ _ _ _ _ _ (meant_by c.args.asked.stream c.args.asked.ticket c.args.frame.now b _ c.in-QueueResource.is) (c.queue_resource.ensures c.args.room.now b h)
+    replied_as (meant_by c.args.asked.stream c.args.asked.ticket c.args.frame.now b _ c.in-QueueResource.is) (c.queue_resource.ensures b h)
 
 pub returns-in-DestroyAll : goal.returns-in-DestroyAll
 returns-in-DestroyAll c b h =
-    tried_as _ _ _ _ _ _ (meant_by c.args.asked.stream c.args.asked.ticket c.args.frame.now b _ c.in-DestroyAll.is) (c.destroy_all.ensures _ b h)
+    replied_as (meant_by c.args.asked.stream c.args.asked.ticket c.args.frame.now b _ c.in-DestroyAll.is) (c.destroy_all.ensures _ b h)
 
 pub returns-in-Clear : goal.returns-in-Clear
 returns-in-Clear c b h =
@@ -51,4 +51,4 @@ returns-in-GetParameters c b h =
 
 pub returns-in-SetParameters : goal.returns-in-SetParameters
 returns-in-SetParameters c b h =
-    tried_as _ _ _ _ _ _ (meant_by c.args.asked.stream c.args.asked.ticket c.args.frame.now b _ c.in-SetParameters.is) (c.set_parameters.ensures b h)
+    replied_as (meant_by c.args.asked.stream c.args.asked.ticket c.args.frame.now b _ c.in-SetParameters.is) (c.set_parameters.ensures b h)

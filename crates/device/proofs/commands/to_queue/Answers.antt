@@ -9,7 +9,7 @@ use Rattle.protocol.specs.declared.queue_type.NoQueue.{NoQueue}
 use Rattle.protocol.specs.QueueTypes.{queue_meant}
 use Rattle.stream.specs.Replied.{told}
 use Rattle.stream.proofs.Steps.{failed}
-use Rattle.device.proofs.Served.{tried_as}
+use Rattle.device.proofs.Served.{replied_as}
 use Rattle.device.proofs.commands.to_queue.Goals as goal
 
 -- the queue that the queue type n, read as k, was found to name
@@ -22,4 +22,4 @@ returns-in_default c b h =
 
 pub returns : goal.returns
 returns c b h =
-    tried_as _ _ _ _ _ _ (ap (on_named _ (told c.args.asked c.args.frame.now b) b) (queue_meant_lem c.queue_type.ensures c.try_from.ensures c.in-Ok.is)) (c.in_queue.ensures b h)
+    replied_as (ap (on_named _ (told c.args.asked c.args.frame.now b) b) (queue_meant_lem c.queue_type.ensures c.try_from.ensures c.in-Ok.is)) (c.in_queue.ensures b h)
