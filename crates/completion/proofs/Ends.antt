@@ -1,13 +1,13 @@
 -- Laws of the reports, of a clear and of a destroy on a stream's block.
 use mathlib.Core.Path.{◌≡◌, refl, sym, ap, ◌∙◌, subst}
 use mathlib.Core.Bool.{Bool, true, false, not}
-use Rattle.std.specs.Prelude.{Option, None, Some}
+use Rattle.std.specs.Prelude.{Option, None, Some, is_some}
 use mathlib.Core.List.{List, [], ◌∷◌, ◌++◌, append_assoc, append-nil, map-append}
 use Prim.Native.Nat.{ℕ, ◌+◌, ◌-◌, ◌≤◌}
 use native.Mathlib.Omega.{arith}
 use native.Mathlib.Numerals.{add-one}
 use lib.ListN.{length, set, length-append}
-use borrow.Author.Tests.{le-ltb}
+use borrow.Author.Tests.{le-ltb, not-false, not-true}
 use Rattle.laws.specs.Parts.{part, with_part}
 use Rattle.laws.specs.Stores.{Wrote}
 use Rattle.laws.specs.Lists.{keep}
@@ -15,7 +15,7 @@ use Rattle.laws.specs.Ascending.{not_below}
 use Rattle.laws.proofs.Lists.{none_is, no_element, keep_ext, keep_const}
 use Rattle.laws.proofs.Ascending.{length_ascending}
 use Rattle.laws.proofs.Stores.{wrote_none, wrote_append}
-use Rattle.model.specs.Device.{QueueType, input, output, dequeued, Slot, resource, Queue, Stream, occupied, queue_of, with_queue, with_drain, with_slots, Buffer, buffer, queued_in, by_resource, buffer_of, no_resource, place}
+use Rattle.model.specs.Device.{QueueType, input, output, is_input, dequeued, Slot, resource, Queue, Stream, occupied, queue_of, with_queue, with_drain, with_slots, Buffer, buffer, queued_in, by_resource, buffer_of, no_resource, place}
 use Rattle.model.specs.Frames.{queue_named}
 use Rattle.model.specs.Answers.{buffer_done, drain_done, Answer, response_type, bytes_of}
 use Rattle.model.specs.Replies.{Reply, refuse, reply}
@@ -61,6 +61,9 @@ module _ (n : ℕ) (b : Stream) where
 
 -- whether a drain is over
 module _ (b : Stream) where
+  pub input_waits : input_queued b ≡ true → false ≡ drain_over b
+  input_waits h = rw h
+
   pub inputs_done : input_queued b ≡ false → no_resource b.outputs.slots ≡ drain_over b
   inputs_done h = rw h
 
@@ -77,6 +80,35 @@ module _ (n queue m flags ts : ℕ) (b : Stream) where
   pub finish_unnamed : flags ≤ 3 → queue_named queue ≡ None → on_finish n queue m flags ts (Some b) ≡ refuse 5 (Some b)
   unfolding on_finish
   finish_unnamed h e = rw (le-ltb 3 flags h) (ap (finish_queue n m flags ts b) e)
+
+-- EOS
+module _ (flags : ℕ) (q : QueueType) (b : Stream) where
+  pub eos_absent : has_eos flags ≡ false → false ≡ bad_eos flags q b
+  eos_absent h = rw h
+
+  pub eos_input : has_eos flags ≡ true → is_input q ≡ true → true ≡ bad_eos flags q b
+  eos_input h e = rw (h, e)
+
+  pub eos_draining : {t : ℕ} → has_eos flags ≡ true → is_input q ≡ false → Some t ≡ b.draining → false ≡ bad_eos flags q b
+  eos_draining h e o = rw (h, e, ← o)
+
+  pub eos_no_drain : has_eos flags ≡ true → is_input q ≡ false → None ≡ b.draining → true ≡ bad_eos flags q b
+  eos_no_drain h e o = rw (h, e, ← o)
+
+  -- by whether a drain is pending
+  pub eos_by_drain : {r : Bool} → has_eos flags ≡ true → is_input q ≡ false → is_some b.draining ≡ not r → r ≡ bad_eos flags q b
+  eos_by_drain {r} h e pending = of b.draining refl pending
+    where
+      of : (o : Option ℕ) → o ≡ b.draining → is_some o ≡ not r → r ≡ bad_eos flags q b
+      of None o p = not-false r (sym p) ∙ eos_no_drain h e o
+      of (Some t) o p = not-true r (sym p) ∙ eos_draining h e o
+
+module _ (flags : ℕ) (b : Stream) where
+  pub never_early : has_eos flags ≡ false → false ≡ early_eos flags b
+  never_early h = rw h
+
+  pub early_by_inputs : has_eos flags ≡ true → input_queued b ≡ early_eos flags b
+  early_by_inputs h = rw h
 
 -- the timestamp
 module _ (q : QueueType) (i : Buffer) (ts : ℕ) where
