@@ -4,12 +4,13 @@ use mathlib.Core.List.{List, [], ◌∷◌, ◌++◌}
 use mathlib.Core.Bool.{true}
 use Prim.Native.Nat.{ℕ, zero, suc, ◌+◌, ◌-◌, ◌*◌, ◌/◌, ◌%◌, ◌^◌, ◌≤◌, ◌<◌}
 use native.Mathlib.Nat.{add-suc, suc-add, add-zero, zero-add, mul_assoc, pow-suc, one-le-pow, mod-one, mod-eq_of_lt, mul_comm, div-one, div-div-eq-div-mul}
+use native.Mathlib.Numerals.{add-one}
 use native.Mathlib.Omega.{arith}
-use lib.ListN.{length, get_or, take, drop, replicate, length-drop}
+use lib.ListN.{length, get_or, take, drop, set, replicate, length-drop}
 use lib.Dec.{ltb, lit<}
 use borrow.Author.Tests.{ltb-true, lt-ltb}
 use lib.Arith.{mod-mul, digits_mod, digits_div}
-use lib.Seq.{get_or-drop, get_or-take, get_or-append-add, sets, take_at, length-take-le}
+use lib.Seq.{get_or-drop, get_or-take, get_or-append-add, sets, take_at, length-take-le, paste, paste-suc}
 use Rattle.std.specs.Int.{w64, from_le_bytes, to_le_bytes}
 use Rattle.laws.specs.Lists.{all_of}
 use Rattle.laws.specs.Parts.{with_part}
@@ -147,3 +148,8 @@ sets_first w p d at n h k e =
     let bytes : p ≡ little_endian w n = e ∙ first_bytes w n h in
     let size : length (little_endian w n) ≡ w = length_little_endian w n in
     rw bytes (sym (rw size at (sets_with_part d (little_endian w n) at (rw size k))))
+
+-- of i bytes of s that are stored from `at` on, one more
+pub one_more : {j v : ℕ} {l : List ℕ} (d : List ℕ) (at : ℕ) (s : List ℕ) (i : ℕ) → at + i < length d → i < length s → j ≡ at + i → v ≡ get_or s i 0
+    → l ≡ paste d at s i → set l j v ≡ paste d at s (i + 1)
+one_more d at s i h k e f p = rw (e, f, p) (paste-suc d at s i 0 h k ∙ ap (paste d at s) (sym (add-one i)))

@@ -79,7 +79,9 @@ pub fn read<N: Number>(part: &[u8], at: usize) -> N
     ensures { N.value result ≡ field N.BYTES part.now at }
 {
     let mut bytes = [0; 8];
-    bytes[..N::BYTES].copy_from_slice(&part[at..at + N::BYTES]);
+    for i in 0..N::BYTES {
+        bytes[i] = part[at + i];
+    }
     N::from_u64(u64::from_le_bytes(bytes))
 }
 
@@ -97,5 +99,8 @@ pub fn put<N: Number>(out: &mut [u8], at: usize, n: N)
     ensures { out.new ≡ sets out.old at (little_endian N.BYTES (N.value n)) }
 {
     let all: u64 = n.into();
-    out[at..at + N::BYTES].copy_from_slice(&all.to_le_bytes()[..N::BYTES]);
+    let bytes = all.to_le_bytes();
+    for i in 0..N::BYTES {
+        out[at + i] = bytes[i];
+    }
 }
