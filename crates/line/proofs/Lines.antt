@@ -1,6 +1,6 @@
 -- Laws of lines that are read in pieces: where a line ends, and what is kept of it.
 use mathlib.Core.Path.{◌≡◌, refl, sym, ap, ◌∙◌}
-use mathlib.Core.Bool.{true, false}
+use mathlib.Core.Bool.{Bool, true, false, true≢false}
 use mathlib.Core.List.{List, [], ◌∷◌, ◌++◌, append_assoc}
 use Prim.Native.Nat.{ℕ, suc, ◌+◌, ◌-◌, ◌≤◌, ◌<◌, min}
 use native.Mathlib.Numerals.{add-one}
@@ -8,8 +8,11 @@ use native.Mathlib.Omega.{arith}
 use lib.Dec.{eqb, ltb}
 use lib.ListN.{length, take, drop, length-append, length-take}
 use lib.Seq.{take_at, take_all, length-take-le, take-append-add}
-use borrow.Author.Tests.{ne_eqb, lt-ltb, le-ltb, ltb-true, ltb-false}
-use Rattle.laws.proofs.Lists.{decide}
+use borrow.Author.Tests.{eqb-true, ne_eqb, lt-ltb, le-ltb, ltb-true, ltb-false}
+use Rattle.laws.specs.Lists.{is_empty}
+use Rattle.laws.proofs.Lists.{decide, no_element, empty_is}
+use Rattle.laws.proofs.Parts.{take_some}
+use Rattle.laws.proofs.Tests.{was_true, was_false}
 use Rattle.line.specs.Split.{prefixed, lines_in, line_room, kept, line_end, split}
 
 -- a line ends at a byte 10, and no sooner
@@ -38,6 +41,19 @@ first_line_lem (b ∷ []) h = decide (eqb b 10) (λ e. rw e) (λ e. rw e)
 first_line_lem (b ∷ x ∷ s) h = decide (eqb b 10) (λ e. rw e) (λ e. rw e (ap (prefixed b) (first_line_lem (x ∷ s) (omega arith))))
 
 -- What is kept of a line
+
+-- the first n bytes are none where n is 0, and only there
+pub none_first : (n : ℕ) (l : List ℕ) → n ≤ length l → eqb n 0 ≡ is_empty (take n l)
+none_first n l h =
+    decide (eqb n 0) (λ e. rw (eqb-true n 0 e)) (λ e. e ∙ sym (take_some n l (λ z. true≢false (sym (ap (λ (m : ℕ). eqb m 0) z) ∙ e)) h))
+
+-- whether any byte is
+module _ {empty : Bool} (line : List ℕ) (is : empty ≡ is_empty line) where
+  pub none_kept : empty ≡ true → length line ≡ 0
+  none_kept e = ap length (empty_is line (was_true is e))
+
+  pub some_kept : empty ≡ false → length line ≡ 0 → ⊥
+  some_kept e n = true≢false (sym (ap is_empty (no_element line n)) ∙ was_false is e)
 
 -- the first m of p and what follows it
 first_of : (p s : List ℕ) (m : ℕ) → length p ≤ m → take m (p ++ s) ≡ p ++ take (m - length p) s
