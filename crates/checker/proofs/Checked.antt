@@ -5,12 +5,13 @@ use mathlib.Core.List.{List, []}
 use Prim.Native.Nat.{ℕ, suc, ◌-◌, ◌≤◌, ◌<◌, min}
 use native.Mathlib.Omega.{arith}
 use lib.ListN.{length, take, drop}
-use Rattle.std.specs.Prelude.{Result, Ok, Err}
+use Rattle.std.specs.Prelude.{Result, Ok, Err, is_err}
 use Rattle.laws.specs.Lists.{is_empty}
 use Rattle.laws.specs.Parts.{part, zeros}
 use Rattle.laws.specs.Stores.{Wrote}
 use Rattle.laws.proofs.Stores.{take_sets, wrote_length}
-use Rattle.laws.proofs.Tests.{was_true, was_false}
+use Rattle.laws.proofs.Lists.{no_element, empty_is}
+use Rattle.laws.proofs.Tests.{ne_true}
 use Rattle.model.specs.Numbers.{table_words}
 use Rattle.model.specs.Tables.{Layout, Freshened, freshen}
 use Rattle.line.specs.Split.{lines_in, line_end, Split, split}
@@ -22,14 +23,21 @@ use Rattle.log_verdict.specs.Kinds.{question_kind, answer_kind, kind_of, same_li
 use Rattle.log_verdict.specs.Checking as verdict
 use Rattle.log_verdict.specs.Checking.{CheckState, missing, extra, different, wrong_line, accepted_log, right_so_far, stopped_at, check_by, check_line, conclude}
 use Rattle.log_verdict.specs.InPieces.{CheckReader, last_number, in64, check_in64, check_lines_in64, check_piece, check_last}
-use Rattle.checker.specs.Meant.{fault_meant, due_in, state_in, InRange}
+use Rattle.checker.specs.Meant.{fault_meant, due_in, state_in, InRange, has_stopped}
+use Rattle.checker.specs.Took.{Took}
 use Rattle.checker.specs.declared.lines.Due.{Due}
+use Rattle.checker.specs.declared.lines.TakenPiece.{TakenPiece}
 use Rattle.checker.specs.declared.WrongLine.{WrongLine}
 use Rattle.checker.proofs.DueText.{due_none, due_first}
 
 -- a line's number has 64 bits in the code
 fits_64 : {n : ℕ} → n ≤ last_number → n ≡ min n last_number
 fits_64 h = omega arith
+
+-- whether a line was wrong
+pub stopped_is : (r : Result Due WrongLine) (t text : List ℕ) → is_err r ≡ has_stopped (state_in r t text)
+stopped_is (Ok d) t text = refl
+stopped_is (Err w) t text = refl
 
 -- a state in its range is one of 64 bits
 in_type : (r : Result Due WrongLine) → InRange r → (t text : List ℕ) → state_in r t text ≡ in64 (state_in r t text)
@@ -139,12 +147,19 @@ module _ (L : Layout) (c : CheckReader) (piece : List ℕ) {ended : Bool} {used 
   unfolding check_piece
   took_ended f q r = rw (← e, f, q, r)
 
--- the last line
-module _ (L : Layout) (c : CheckReader) {empty : Bool} (is : empty ≡ is_empty c.line) where
-  pub last_none : empty ≡ true → c.state ≡ check_last L c
-  unfolding check_last
-  last_none e = rw (was_true is e)
+-- what is left, part by part
+pub took : {c : CheckReader} {piece t text kept : List ℕ} {r : TakenPiece} → r.used ≡ (split [] piece).used → record { state = state_in r.state t text; line = kept } ≡ c → Took c piece r t text kept
+took u e = record { used = u; state = ap (λ (x : CheckReader). x.state) e; line = ap (λ (x : CheckReader). x.line) e }
 
-  pub last_checked : empty ≡ false → check_in64 L c.state c.line ≡ check_last L c
+pub took_whole : {c : CheckReader} {piece t text kept : List ℕ} {r : TakenPiece} → Took c piece r t text kept → record { state = state_in r.state t text; line = kept } ≡ c
+took_whole w = rw (w.state, w.line)
+
+-- the last line
+module _ (L : Layout) (c : CheckReader) where
+  pub last_none : length c.line ≡ 0 → c.state ≡ check_last L c
   unfolding check_last
-  last_checked e = rw (was_false is e)
+  last_none none = rw (no_element c.line none)
+
+  pub last_checked : (length c.line ≡ 0 → ⊥) → check_in64 L c.state c.line ≡ check_last L c
+  unfolding check_last
+  last_checked some = rw (ne_true (is_empty c.line) (λ e. some (ap length (empty_is c.line e))))

@@ -11,7 +11,7 @@ ghost use Rattle.log_verdict.specs.InPieces.{CheckReader, check_piece, check_las
 ghost use Rattle.checker.specs.Meant.{fault_meant, verdict_meant, numbered_by, fault_text, wrong_text, has_stopped, state_in};
 
 use crate::lines::Check;
-pub use crate::lines::Due;
+pub use crate::lines::{Due, TakenPiece, take_piece};
 use line::KeptLine;
 use std::fmt;
 use std::marker::Model;
@@ -89,14 +89,7 @@ impl<'a> Checker<'a> {
         ensures used { result ≡ (split [] piece.now).used }
         ensures means { self.new ≡ check_piece layout self.old piece.now }
     {
-        match self.kept.gather(piece) {
-            Some(used) => {
-                self.check.check_line(self.kept.bytes());
-                self.kept.clear();
-                used
-            }
-            None => piece.len(),
-        }
+        self.check.take_piece(&mut self.kept, piece)
     }
 
     // Whether a line was wrong: then no more need be read.
@@ -169,16 +162,25 @@ impl From<Fault> for u32 {
     }
 }
 
-impl fmt::Display for Fault {
-    ghost output = { λ f. Some (fault_text f) };
-
-    fn fmt<W: fmt::Write>(&self, f: &mut fmt::Formatter<W>) -> fmt::Result {
-        f.write_str(match self {
+impl Fault {
+    // What is printed of it.
+    fn text(self) -> &'static str
+        ensures { result.now ≡ fault_text self }
+    {
+        match self {
             Fault::MissingAnswer => "missing",
             Fault::ExtraAnswer => "extra",
             Fault::DifferentAnswer => "different",
             Fault::LineRefused => "refused 7",
-        })
+        }
+    }
+}
+
+impl fmt::Display for Fault {
+    ghost output = { λ f. Some (fault_text f) };
+
+    fn fmt<W: fmt::Write>(&self, f: &mut fmt::Formatter<W>) -> fmt::Result {
+        f.write_str(self.text())
     }
 }
 

@@ -1,14 +1,16 @@
 // How the check of a log stands, and what a line makes of it.
-ghost use Rattle.std.specs.Prelude.{◌≡◌, List, [], ℕ, suc, ◌≤◌, min, length};
+ghost use Rattle.std.specs.Prelude.{◌≡◌, List, [], ℕ, suc, ◌<◌, ◌≤◌, min, length};
 ghost use Rattle.table.specs.Blocks.{layout};
-ghost use Rattle.line.specs.Split.{lines_in};
+ghost use Rattle.line.specs.Split.{lines_in, split};
 ghost use Rattle.log_verdict.specs.Kinds.{question_kind, answer_kind, kind_of};
 ghost use Rattle.log_verdict.specs.Checking.{CheckState, right_so_far, check_by, conclude};
-ghost use Rattle.log_verdict.specs.InPieces.{last_number, in64, check_in64, check_lines_in64};
+ghost use Rattle.log_verdict.specs.InPieces.{last_number, in64, check_in64, check_lines_in64, check_piece};
 ghost use Rattle.checker.specs.Meant.{due_in, state_in, InRange, verdict_meant, has_stopped};
+ghost use Rattle.checker.specs.Took.{Took};
 
 use crate::kinds::{LineKind, kind_of, same_line};
 use crate::{Fault, WrongLine};
+use line::KeptLine;
 use std::marker::Model;
 
 // Before a line, where nothing was wrong so far: its number, and where in the text of the last question's answers those that are due begin and end.
@@ -40,6 +42,13 @@ impl Due {
             line: self.line,
         }
     }
+}
+
+// What a call on a piece did: the bytes used of it, and how the check then stands.
+#[derive(Clone, Copy, Debug, PartialEq, Eq)]
+pub struct TakenPiece {
+    pub used: usize,
+    pub state: Result<Due, WrongLine>,
 }
 
 // How the check stands before a line: the table that it was lent, the text of the last question's answers, and what is due, or the first wrong line.
@@ -79,13 +88,7 @@ impl<'a> Check<'a> {
     ) -> Check<'a>
         ensures { result ≡ state_in state table.old text }
     {
-        let state = match state {
-            Ok(due) => Ok(Due {
-                end: due.end.min(text.len()),
-                ..due
-            }),
-            Err(wrong) => Err(wrong),
-        };
+        let state = within(state, &text);
         Check { table, text, state }
     }
 
@@ -101,15 +104,22 @@ impl<'a> Check<'a> {
         }
     }
 
-    // Checks a line. Where one was wrong, nothing that follows is looked at.
+    // Checks a line.
     pub fn check_line(&mut self, line: &[u8])
         ensures { self.new ≡ check_in64 layout self.old line.now }
     {
-        let Ok(due) = self.state else {
-            return;
-        };
-        let state = check_by_kind(self.table, &mut self.text, due, line);
-        self.state = state;
+        self.state = check_line(self.table, &mut self.text, self.state, line);
+    }
+
+    // Takes a piece, as `take_piece` does.
+    pub fn take_piece(&mut self, kept: &mut KeptLine, piece: &[u8]) -> usize
+        ensures uses { (result ≤ length piece.now) × (0 < length piece.now → 0 < result) }
+        ensures used { result ≡ (split [] piece.now).used }
+        ensures means { record { state = self.new; line = kept.new } ≡ check_piece layout (record { state = self.old; line = kept.old }) piece.now }
+    {
+        let taken = take_piece(self.table, &mut self.text, kept, self.state, piece);
+        self.state = taken.state;
+        taken.used
     }
 
     pub fn has_stopped(&self) -> bool
@@ -128,6 +138,66 @@ impl<'a> Check<'a> {
         }
         Ok(())
     }
+}
+
+// A state with no more due than stands in the text.
+fn within(state: Result<Due, WrongLine>, text: &[u8; 2112]) -> Result<Due, WrongLine>
+    ensures fits { InRange result }
+    ensures means { (t : List ℕ) → state_in result t text.now ≡ state_in state t text.now }
+{
+    match state {
+        Ok(due) => Ok(Due {
+            end: due.end.min(text.len()),
+            ..due
+        }),
+        Err(wrong) => Err(wrong),
+    }
+}
+
+// Takes a piece up to its first byte 10 behind what is kept of the line, and checks the line where it ends. Whoever keeps the parts of a check himself has
+// them before him after each piece: a `Checker` does no more.
+pub fn take_piece(
+    table: &mut [u32],
+    text: &mut [u8; 2112],
+    kept: &mut KeptLine,
+    state: Result<Due, WrongLine>,
+    piece: &[u8],
+) -> TakenPiece
+    ensures size { length text.new ≡ 2112 }
+    ensures fits { InRange result.state }
+    ensures uses { (result.used ≤ length piece.now) × (0 < length piece.now → 0 < result.used) }
+    ensures means { Took (check_piece layout (record { state = state_in state table.old text.old; line = kept.old }) piece.now) piece.now result table.new text.new kept.new }
+{
+    let before = within(state, text);
+    match kept.gather(piece) {
+        Some(used) => {
+            let after = check_line(table, text, before, kept.bytes());
+            kept.clear();
+            TakenPiece { used, state: after }
+        }
+        None => TakenPiece {
+            used: piece.len(),
+            state: before,
+        },
+    }
+}
+
+// Checks a line. Where one was wrong, nothing that follows is looked at.
+fn check_line(
+    table: &mut [u32],
+    text: &mut [u8; 2112],
+    state: Result<Due, WrongLine>,
+    line: &[u8],
+) -> Result<Due, WrongLine>
+    requires { InRange state }
+    ensures size { length text.new ≡ 2112 }
+    ensures fits { InRange result }
+    ensures means { state_in result table.new text.new ≡ check_in64 layout (state_in state table.old text.old) line.now }
+{
+    let Ok(due) = state else {
+        return state;
+    };
+    check_by_kind(table, text, due, line)
 }
 
 // A line where nothing was wrong so far.
