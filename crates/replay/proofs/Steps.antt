@@ -8,7 +8,8 @@ use lib.ListN.{length, take, length-take}
 use Rattle.laws.specs.Stores.{Wrote}
 use Rattle.laws.proofs.Stores.{wrote_none}
 use Rattle.laws.specs.Lists.{is_empty}
-use Rattle.laws.proofs.Tests.{was_true, was_false}
+use Rattle.laws.proofs.Lists.{no_element, empty_is}
+use Rattle.laws.proofs.Tests.{ne_true}
 use Rattle.model.specs.Numbers.{answer_room}
 use Rattle.model.specs.Steps.{Act}
 use Rattle.model.specs.Tables.{Layout, Effect, effect}
@@ -85,14 +86,14 @@ module _ (L : Layout) (t line piece kept out : List ℕ) where
 
 -- The end of the log
 
-module _ (L : Layout) (t line : List ℕ) {empty : Bool} (is : empty ≡ is_empty line) where
-  pub end_empty : {out : List ℕ} → empty ≡ true → Logs (last_step L (record { table = t; line = line })) 0 t out out
+module _ (L : Layout) (t line : List ℕ) where
+  pub end_empty : {out : List ℕ} → length line ≡ 0 → Logs (last_step L (record { table = t; line = line })) 0 t out out
   unfolding last_step
-  end_empty {out} e = rw (was_true is e) (record { wrote = wrote_none out 0; table = refl })
+  end_empty {out} none = rw (no_element line none) (record { wrote = wrote_none out 0; table = refl })
 
-  pub end_line : {out out' t' : List ℕ} {n : ℕ} → empty ≡ false → Logs (line_step L t line) n t' out out' → Logs (last_step L (record { table = t; line = line })) n t' out out'
+  pub end_line : {out out' t' : List ℕ} {n : ℕ} → (length line ≡ 0 → ⊥) → Logs (line_step L t line) n t' out out' → Logs (last_step L (record { table = t; line = line })) n t' out out'
   unfolding last_step
-  end_line e w = rw (was_false is e) w
+  end_line some w = rw (ne_true (is_empty line) (λ e. some (ap length (empty_is line e)))) w
 
 -- what a call did, of an equal call
 pub as_call : {c d : Call} {r : Fed} {t held out out' : List ℕ} → c ≡ d → Did c r t held out out' → Did d r t held out out'

@@ -5,7 +5,7 @@ use Rattle.replay.proofs.feed.Goals as goal
 
 pub returns-in-Some-clause-uses : goal.returns-in-Some-clause-uses
 returns-in-Some-clause-uses c =
-    used_some _ c.args.piece.now (call_ended layout c.args.table.now c.args.kept.now c.args.piece.now c.gather.new.self c.args.out.now c.in-Some.ensures c.clear.ensures (rw c.bytes.ensures.value at c.log_line-written.ensures.means))
+    used_some _ c.args.piece.now (call_ended layout c.args.table.now _ c.args.piece.now c.gather.new.self c.args.out.now c.in-Some.ensures c.clear.ensures (rw c.bytes.ensures.value at c.log_line-written.ensures.means))
 
 pub returns-in-Some-clause-means : goal.returns-in-Some-clause-means
 returns-in-Some-clause-means c =
