@@ -88,7 +88,7 @@ impl<'a> Check<'a> {
     ) -> Check<'a>
         ensures { result ≡ state_in state table.old text }
     {
-        let state = within(state, &text);
+        let state = in_text(state, &text);
         Check { table, text, state }
     }
 
@@ -108,7 +108,7 @@ impl<'a> Check<'a> {
     pub fn check_line(&mut self, line: &[u8])
         ensures { self.new ≡ check_in64 layout self.old line.now }
     {
-        self.state = check_line(self.table, &mut self.text, self.state, line);
+        self.state = checked_line(self.table, &mut self.text, self.state, line);
     }
 
     // Takes a piece, as `take_piece` does.
@@ -141,7 +141,7 @@ impl<'a> Check<'a> {
 }
 
 // A state with no more due than stands in the text.
-fn within(state: Result<Due, WrongLine>, text: &[u8; 2112]) -> Result<Due, WrongLine>
+fn in_text(state: Result<Due, WrongLine>, text: &[u8; 2112]) -> Result<Due, WrongLine>
     ensures fits { InRange result }
     ensures means { (t : List ℕ) → state_in result t text.now ≡ state_in state t text.now }
 {
@@ -168,10 +168,10 @@ pub fn take_piece(
     ensures uses { (result.used ≤ length piece.now) × (0 < length piece.now → 0 < result.used) }
     ensures means { Took (check_piece layout (record { state = state_in state table.old text.old; line = kept.old }) piece.now) piece.now result table.new text.new kept.new }
 {
-    let before = within(state, text);
+    let before = in_text(state, text);
     match kept.gather(piece) {
         Some(used) => {
-            let after = check_line(table, text, before, kept.bytes());
+            let after = checked_line(table, text, before, kept.bytes());
             kept.clear();
             TakenPiece { used, state: after }
         }
@@ -183,7 +183,7 @@ pub fn take_piece(
 }
 
 // Checks a line. Where one was wrong, nothing that follows is looked at.
-fn check_line(
+fn checked_line(
     table: &mut [u32],
     text: &mut [u8; 2112],
     state: Result<Due, WrongLine>,

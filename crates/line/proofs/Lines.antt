@@ -49,8 +49,8 @@ none_first n l h =
 
 -- whether any byte is
 module _ {empty : Bool} (line : List ℕ) (is : empty ≡ is_empty line) where
-  pub none_kept : empty ≡ true → length line ≡ 0
-  none_kept e = ap length (empty_is line (was_true is e))
+  pub empty_kept : empty ≡ true → length line ≡ 0
+  empty_kept e = ap length (empty_is line (was_true is e))
 
   pub some_kept : empty ≡ false → length line ≡ 0 → ⊥
   some_kept e n = true≢false (sym (ap is_empty (no_element line n)) ∙ was_false is e)

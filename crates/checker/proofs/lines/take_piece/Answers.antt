@@ -12,13 +12,13 @@ returns-in-Some-clause-uses c =
 
 pub returns-in-Some-clause-means : goal.returns-in-Some-clause-means
 returns-in-Some-clause-means c =
-    let reader : CheckReader = record { state = state_in c.within-before.result c.args.table.now c.args.text.now; line = c.args.kept.now } in
-    rw (← c.within-before.ensures.means c.args.table.now)
+    let reader : CheckReader = record { state = state_in c.in_text-before.result c.args.table.now c.args.text.now; line = c.args.kept.now } in
+    rw (← c.in_text-before.ensures.means c.args.table.now)
     (took (used_is layout reader c.args.piece.now c.in-Some.ensures)
-    (took_ended layout reader c.args.piece.now c.in-Some.ensures refl (rw c.bytes.ensures.value at c.check_line-after.ensures.means) c.clear.ensures))
+    (took_ended layout reader c.args.piece.now c.in-Some.ensures refl (rw c.bytes.ensures.value at c.checked_line-after.ensures.means) c.clear.ensures))
 
 pub returns-in-None-clause-means : goal.returns-in-None-clause-means
 returns-in-None-clause-means c =
-    let reader : CheckReader = record { state = state_in c.within-before.result c.args.table.now c.args.text.now; line = c.args.kept.now } in
-    rw (← c.within-before.ensures.means c.args.table.now)
+    let reader : CheckReader = record { state = state_in c.in_text-before.result c.args.table.now c.args.text.now; line = c.args.kept.now } in
+    rw (← c.in_text-before.ensures.means c.args.table.now)
     (took (used_is layout reader c.args.piece.now c.in-None.ensures) (took_open layout reader c.args.piece.now c.in-None.ensures refl))

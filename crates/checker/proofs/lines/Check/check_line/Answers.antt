@@ -2,7 +2,7 @@
 use Rattle.checker.proofs.lines.Check.check_line.Goals as goal
 
 pub returns : goal.returns
-returns c = rw (← c.self.view_is) c.check_line-self-inside.ensures.means
+returns c = rw (← c.self.view_is) c.checked_line-self-inside.ensures.means
 
 pub invariant_of-self : goal.invariant_of-self
-invariant_of-self c = (c.check_line-self-inside.ensures.fits, c.check_line-self-inside.ensures.size)
+invariant_of-self c = (c.checked_line-self-inside.ensures.fits, c.checked_line-self-inside.ensures.size)

@@ -2,4 +2,4 @@
 use Rattle.checker.proofs.lines.Check.standing.Goals as goal
 
 pub returns : goal.returns
-returns c = c.within-state.ensures.means c.args.table.now
+returns c = c.in_text-state.ensures.means c.args.table.now

@@ -1,4 +1,4 @@
--- `checker::lines::within` meets its contract: no more is due than stands in the text.
+-- `checker::lines::in_text` meets its contract: no more is due than stands in the text.
 use mathlib.Core.Path.{sym, ap, ◌∙◌}
 use mathlib.Core.List.{List}
 use Prim.Native.Nat.{ℕ}
@@ -9,7 +9,7 @@ use Rattle.checker.specs.declared.WrongLine.{WrongLine}
 use Rattle.checker.specs.declared.lines.Due.{Due}
 use Rattle.checker.specs.Meant.{state_in}
 use Rattle.checker.proofs.DueText.{due_most}
-use Rattle.checker.proofs.lines.within.Goals as goal
+use Rattle.checker.proofs.lines.in_text.Goals as goal
 
 pub returns-in-Ok-clause-means : goal.returns-in-Ok-clause-means
 returns-in-Ok-clause-means c t =

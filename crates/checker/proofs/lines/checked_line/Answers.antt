@@ -1,8 +1,8 @@
--- `checker::lines::check_line` meets its contract: by how the check stands.
+-- `checker::lines::checked_line` meets its contract: by how the check stands.
 use mathlib.Core.Path.{refl}
 use Rattle.table.specs.Blocks.{layout}
 use Rattle.checker.proofs.Checked.{checked_next, checked_still}
-use Rattle.checker.proofs.lines.check_line.Goals as goal
+use Rattle.checker.proofs.lines.checked_line.Goals as goal
 
 pub returns-in_default-clause-means : goal.returns-in_default-clause-means
 returns-in_default-clause-means c =
