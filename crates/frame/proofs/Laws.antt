@@ -4,17 +4,26 @@ use mathlib.Core.Bool.{Bool, true, false, not, ◌&&◌, ◌||◌}
 use mathlib.Core.List.{List}
 use Prim.Native.Nat.{ℕ, zero, suc, ◌+◌, ◌*◌, ◌/◌, ◌-◌, ◌^◌, ◌<◌}
 use native.Mathlib.Omega.{arith}
-use lib.Dec.{ltb, eqb}
+use lib.Dec.{leb, ltb, eqb}
+use borrow.Author.Tests.{le-leb, leb-true, ne_eqb}
 use lib.ListN.{length, get_or, take, drop, length-drop}
 use Rattle.laws.specs.Lists.{total}
-use Rattle.laws.proofs.Lists.{total_more}
+use Rattle.laws.proofs.Tests.{tests_same, leb_not_ltb}
+use Rattle.laws.proofs.Lists.{decide, total_more}
+use Rattle.std.specs.Prelude.{is_some}
 use Rattle.std.specs.List.{list_all}
 use Rattle.laws.specs.Parts.{read_pieces}
 use Rattle.laws.proofs.Stores.{rest_part}
 use Rattle.field.proofs.Laws.{field_part}
+use Rattle.tag.specs.Tag.{good_tag, tag_length}
 use Rattle.model.specs.Frames.{word, words_at, num_entries, entry_addr, entry_length, entry_bytes}
 use Rattle.model.specs.Commands.{bad_entry}
 use Rattle.frame.specs.Frame.{good_entry}
+
+-- a tag of which the length was found
+pub some_length : (t : List ℕ) → is_some (tag_length t) ≡ good_tag t
+unfolding tag_length
+some_length t = decide (good_tag t) (λ g. rw g) (λ g. rw g)
 
 -- Sums of entry counts
 
@@ -34,6 +43,17 @@ sum_more f i h =
     ∙ ap (λ (v : ℕ). total (take i (num_entries f)) + v) (word_at f 56 8 i h ∙ ap (word f) (omega arith))
 
 -- Entries
+
+-- the code's test, which does not wrap
+pub entry_test : (e : List ℕ) (address len : ℕ) → address ≡ entry_addr e → len ≡ entry_length e → address < 2 ^ 64 → (len ≡ 0 → ⊥) → leb (len - 1) (18446744073709551615 - address) ≡ good_entry e
+unfolding good_entry
+entry_test e address len p q h k =
+    let a : ℕ = len - 1 in
+    let b : ℕ = 18446744073709551615 - address in
+    let end : ℕ = address + len in
+    rw (← p, ← q, ne_eqb len 0 k)
+    (tests_same (leb a b) (leb end (2 ^ 64)) (λ t. le-leb end (2 ^ 64) (omega (arith, leb-true a b t))) (λ t. le-leb a b (omega (arith, leb-true end (2 ^ 64) t)))
+    ∙ leb_not_ltb end (2 ^ 64))
 
 -- an entry is read from its first 16 bytes
 good_front : (es : List ℕ) → good_entry (take entry_bytes es) ≡ good_entry es

@@ -72,7 +72,6 @@ pub fn resource_good(frame: &[u8]) -> bool
 }
 
 // Whether the frame of a queue command, 64 bytes, has at most 8 sizes.
-#[tactic(auto, using(std::proofs::lemmas::Bool::Decides::nat_tests), unfolding(crate::specs::Frame::good_sizes))]
 pub fn sizes_good(frame: &[u8]) -> bool
     requires { 64 ≤ length frame.now }
     ensures { result ≡ good_sizes frame.now }
@@ -166,7 +165,6 @@ pub fn frame_rate(frame: &[u8]) -> u32
 }
 
 // Whether the tag of a create is good.
-#[tactic(auto, unfolding(tag::specs::Tag::tag_length))]
 fn tag_good(frame: &[u8]) -> bool
     requires { 88 ≤ length frame.now }
     ensures { result ≡ good_tag (tag_in frame.now) }
@@ -188,7 +186,7 @@ fn entry_sum(frame: &[u8], planes: usize) -> u64
 }
 
 // Whether there are 1 to 256 entries, the frame has the length that goes with them, and each is good.
-#[tactic(auto, using(std::proofs::lemmas::Bool::Decides::nat_tests, crate::proofs::Laws::entries_rest), unfolding(crate::specs::Frame::good_entries, laws::specs::Tests::within))]
+#[tactic(auto, using(std::proofs::lemmas::Bool::Decides::nat_tests), unfolding(crate::specs::Frame::good_entries, laws::specs::Tests::within))]
 fn entries_good(frame: &[u8], sum: u64) -> bool
     requires { 88 ≤ length frame.now }
     ensures { result ≡ good_entries frame.now sum }
