@@ -105,7 +105,6 @@ pub fn display_name<'a>(frame: &'a [u8], site: &'a [u8]) -> &'a [u8]
 }
 
 // How many octets stand before the tag's NUL, if it has one and they are UTF-8.
-#[tactic(auto, using(crate::proofs::Laws::nul_place), unfolding(crate::specs::Tag::tag_length, crate::specs::Tag::good_tag))]
 pub fn tag_of(tag: &[u8]) -> Option<usize>
     ensures { result ≡ tag_length tag.now }
 {
