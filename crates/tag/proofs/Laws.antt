@@ -68,8 +68,8 @@ pub utf8_end : (s : List ℕ) (i n lo hi : ℕ) → length s ≤ i → utf8_afte
 unfolding utf8_after
 utf8_end s i n lo hi h = rw (drop_of_length-le s h)
 
-kept : ◌≡◌ {A = Option ℕ} None None
-kept = refl
+none_same : ◌≡◌ {A = Option ℕ} None None
+none_same = refl
 
 -- the length of a tag, by the place of its first NUL
 module _ (t : List ℕ) where
@@ -78,7 +78,7 @@ module _ (t : List ℕ) where
   tag_without_nul e = decide (ltb (nul_at t) (length t))
       (λ h. let k : ltb (position_or_len (λ b. eqb b 0) t) (length t) ≡ true = rw (← (nul_place t)) h in
       let w : Some (position_or_len (λ b. eqb b 0) t) ≡ None = rw k at e in cc)
-      (λ h. rw h kept)
+      (λ h. rw h none_same)
 
   pub tag_by_nul : (n : ℕ) → position (λ b. eqb b 0) t ≡ Some n → then_some (utf8 (take n t)) n ≡ tag_length t
   unfolding tag_length good_tag
