@@ -6,7 +6,7 @@ use Prim.Native.Nat.{ℕ, suc, ◌+◌, ◌-◌, ◌≤◌, ◌<◌, min}
 use native.Mathlib.Numerals.{add-one}
 use native.Mathlib.Omega.{arith}
 use lib.Dec.{eqb, ltb}
-use lib.ListN.{length, take, drop, length-append, length-take}
+use lib.ListN.{length, take, drop, length-append, length-take, drop_of_length-le}
 use lib.Seq.{take_at, take_all, length-take-le, take-append-add}
 use borrow.Author.Tests.{eqb-true, ne_eqb, lt-ltb, le-ltb, ltb-true, ltb-false}
 use Rattle.laws.specs.Lists.{is_empty}
@@ -39,6 +39,15 @@ unfolding lines_in line_end
 first_line_lem [] h = absurd (omega arith)
 first_line_lem (b ∷ []) h = decide (eqb b 10) (λ e. rw e) (λ e. rw e)
 first_line_lem (b ∷ x ∷ s) h = decide (eqb b 10) (λ e. rw e) (λ e. rw e (ap (prefixed b) (first_line_lem (x ∷ s) (omega arith))))
+
+-- what follows a line begins behind its byte 10, if it has one
+pub behind_line : (text : List ℕ) {n k : ℕ} → n ≡ line_end text → k ≡ min (length text) (n + 1) → drop k text ≡ drop (suc (line_end text)) text
+behind_line text {n} {k} at e =
+    decide (ltb (length text) (n + 1))
+    (λ t. let past = ltb-true (length text) (n + 1) t in
+    rw (drop_of_length-le text {i = k} (omega arith)) (sym (drop_of_length-le text {i = suc (line_end text)} (omega arith))))
+    (λ t. let within = ltb-false (length text) (n + 1) t in
+    let same : k ≡ suc (line_end text) = omega arith in ap (λ (m : ℕ). drop m text) same)
 
 -- What is kept of a line
 

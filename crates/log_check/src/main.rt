@@ -2,9 +2,9 @@
 // reads is in `checker`.
 #![tactic(auto)]
 
-use checker::{Checker, WrongLine};
+use checker::{Checker, Fault, WrongLine};
+use std::io;
 use std::io::{Read, Write};
-use std::{fmt, io};
 
 // Why no verdict was given.
 #[derive(Clone, Copy, Debug, PartialEq, Eq)]
@@ -13,12 +13,13 @@ enum Failure {
     Unwritten,
 }
 
-impl fmt::Display for Failure {
-    fn fmt<W: fmt::Write>(&self, f: &mut fmt::Formatter<W>) -> fmt::Result {
-        f.write_str(match self {
-            Failure::Unread => "the log cannot be read to its end",
-            Failure::Unwritten => "the verdict cannot be written",
-        })
+impl Failure {
+    // What is said of it: a whole line, so that it leaves in one write.
+    fn message(self) -> &'static [u8] {
+        match self {
+            Failure::Unread => b"log_check: the log cannot be read to its end\n",
+            Failure::Unwritten => b"log_check: the verdict cannot be written\n",
+        }
     }
 }
 
@@ -48,11 +49,24 @@ fn read_all(input: &mut impl Read, check: &mut Checker) -> Result<(), Failure> {
     Err(Failure::Unread)
 }
 
-// Writes the verdict in one line.
+// The end of a wrong line's verdict: the name of the fault, and byte 10.
+fn fault_end(fault: Fault) -> &'static [u8] {
+    match fault {
+        Fault::MissingAnswer => b"missing\n",
+        Fault::ExtraAnswer => b"extra\n",
+        Fault::DifferentAnswer => b"different\n",
+        Fault::LineRefused => b"refused 7\n",
+    }
+}
+
+// Writes the verdict in one line. Output is not buffered, so byte 10 leaves in one write with what stands before it.
 fn write_verdict(output: &mut impl Write, verdict: Result<(), WrongLine>) -> io::Result<()> {
     match verdict {
-        Ok(()) => writeln!(output, "accepted"),
-        Err(wrong) => writeln!(output, "{wrong}"),
+        Ok(()) => output.write_all(b"accepted\n"),
+        Err(wrong) => {
+            write!(output, "line {}: ", wrong.line)?;
+            output.write_all(fault_end(wrong.fault))
+        }
     }
 }
 
@@ -69,6 +83,6 @@ fn main(rt: HostRuntime) {
     let mut output = rt.stdout();
     if let Err(failure) = run_check(&mut rt.stdin(), &mut output) {
         // Where even this cannot be said, there is nobody to tell.
-        let _ = writeln!(rt.stderr(), "log_check: {failure}");
+        let _ = rt.stderr().write_all(failure.message());
     }
 }

@@ -2,7 +2,6 @@
 #![tactic(auto)]
 
 use replay::KeptLine;
-use std::fmt;
 use std::io::{Read, Write};
 
 // Why a log was not run to its end.
@@ -12,12 +11,13 @@ enum Failure {
     Unwritten,
 }
 
-impl fmt::Display for Failure {
-    fn fmt<W: fmt::Write>(&self, f: &mut fmt::Formatter<W>) -> fmt::Result {
-        f.write_str(match self {
-            Failure::Unread => "the log cannot be read to its end",
-            Failure::Unwritten => "the answers cannot be written",
-        })
+impl Failure {
+    // What is said of it: a whole line, so that it leaves in one write.
+    fn message(self) -> &'static [u8] {
+        match self {
+            Failure::Unread => b"video_log: the log cannot be read to its end\n",
+            Failure::Unwritten => b"video_log: the answers cannot be written\n",
+        }
     }
 }
 
@@ -76,6 +76,6 @@ fn main(rt: HostRuntime) {
     let mut output = rt.stdout();
     if let Err(failure) = run_log(&mut rt.stdin(), &mut output) {
         // Where even this cannot be said, there is nobody to tell.
-        let _ = writeln!(rt.stderr(), "video_log: {failure}");
+        let _ = rt.stderr().write_all(failure.message());
     }
 }
