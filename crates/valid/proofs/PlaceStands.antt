@@ -185,9 +185,6 @@ module _ (h : List ℕ) (long : length h ≡ 8) where
       eight (λ x. get_or x 0 0 ≡ 1 → (get_or x 3 0 ≡ 0 → ⊥) → (get_or x 3 0 ≡ 1 → ⊥) → false ≡ head_stands x)
       (λ a n f o t x y z one e d. rw (one, ne_eqb o 1 d, ne_eqb o 0 e, eqb_same n, eqb_same f)) h long
 
--- what the test of a head's words takes
-pub ruleset head_laws = (head_idle, head_draining, head_other)
-
 -- The whole test of eight blocks: each is that of a place that keeps the rules, and no number stands twice
 
 turned : (good apart spent stands once : Bool) → (stands ≡ true → apart ≡ once) → ((good && apart) && spent) && stands ≡ (stands && (good && spent)) && once

@@ -77,9 +77,6 @@ module _ (w : List ℕ) (long : length w ≡ 5) where
       None (resource r (queued t ts)) e = omega (arith, g, ap (λ (x : List ℕ). get_or x 0 0) e)
       None (resource r dequeued) e = omega (arith, g, ap (λ (x : List ℕ). get_or x 0 0) e)
 
--- what the test of a slot's words takes
-pub ruleset slot_laws = (free_words, queued_words, other_words, high_words)
-
 -- A queue's words
 
 -- each slot's words are those of the slot that they stand for

@@ -21,7 +21,6 @@ use table::{
 };
 
 // Whether eight words, the first of them 1, are the head of a live stream.
-#[tactic(auto, using(crate::proofs::PlaceStands::head_laws))]
 fn head_stands(h: &[u32]) -> bool
     requires { (length h.now ≡ 8) × (get_or h.now 0 0 ≡ 1) }
     ensures { result ≡ head_stands h.now }

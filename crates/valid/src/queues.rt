@@ -22,7 +22,7 @@ pub fn all_zero(s: &[u32]) -> bool
 }
 
 // Whether five words are those of the slot that they stand for.
-#[tactic(auto, using(crate::proofs::QueueStands::slot_laws))]
+#[tactic(auto, using(crate::proofs::QueueStands::high_words))]
 fn slot_stands(w: &[u32; SLOT_SIZE]) -> bool
     ensures { result ≡ same w.now (slot_words (decode_slot w.now)) }
 {
