@@ -40,15 +40,6 @@ first_line_lem [] h = absurd (omega arith)
 first_line_lem (b ∷ []) h = decide (eqb b 10) (λ e. rw e) (λ e. rw e)
 first_line_lem (b ∷ x ∷ s) h = decide (eqb b 10) (λ e. rw e) (λ e. rw e (ap (prefixed b) (first_line_lem (x ∷ s) (omega arith))))
 
--- what follows a line begins behind its byte 10, if it has one
-pub behind_line : (text : List ℕ) {n k : ℕ} → n ≡ line_end text → k ≡ min (length text) (n + 1) → drop k text ≡ drop (suc (line_end text)) text
-behind_line text {n} {k} at e =
-    decide (ltb (length text) (n + 1))
-    (λ t. let past = ltb-true (length text) (n + 1) t in
-    rw (drop_of_length-le text {i = k} (omega arith)) (sym (drop_of_length-le text {i = suc (line_end text)} (omega arith))))
-    (λ t. let within = ltb-false (length text) (n + 1) t in
-    let same : k ≡ suc (line_end text) = omega arith in ap (λ (m : ℕ). drop m text) same)
-
 -- What is kept of a line
 
 -- the first n bytes are none where n is 0, and only there

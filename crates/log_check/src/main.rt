@@ -2,7 +2,7 @@
 // reads is in `checker`.
 #![tactic(auto)]
 
-use checker::{Checker, Fault, WrongLine};
+use checker::{Checker, WrongLine};
 use std::io;
 use std::io::{Read, Write};
 
@@ -49,25 +49,16 @@ fn read_all(input: &mut impl Read, check: &mut Checker) -> Result<(), Failure> {
     Err(Failure::Unread)
 }
 
-// The end of a wrong line's verdict: the name of the fault, and byte 10.
-fn fault_end(fault: Fault) -> &'static [u8] {
-    match fault {
-        Fault::MissingAnswer => b"missing\n",
-        Fault::ExtraAnswer => b"extra\n",
-        Fault::DifferentAnswer => b"different\n",
-        Fault::LineRefused => b"refused 7\n",
-    }
-}
-
-// Writes the verdict in one line. Output is not buffered, so byte 10 leaves in one write with what stands before it.
+// Writes the verdict in one line, and in one write, since output is not buffered.
 fn write_verdict(output: &mut impl Write, verdict: Result<(), WrongLine>) -> io::Result<()> {
-    match verdict {
-        Ok(()) => output.write_all(b"accepted\n"),
-        Err(wrong) => {
-            write!(output, "line {}: ", wrong.line)?;
-            output.write_all(fault_end(wrong.fault))
-        }
-    }
+    let Err(wrong) = verdict else {
+        return output.write_all(b"accepted\n");
+    };
+    let mut line = [0u8; 64];
+    let mut rest = &mut line[..];
+    writeln!(rest, "{wrong}")?;
+    let left = rest.len();
+    output.write_all(&line[..line.len().saturating_sub(left)])
 }
 
 // Checks a log, and writes the verdict.
