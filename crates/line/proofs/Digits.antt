@@ -1,8 +1,8 @@
 -- Laws of hexadecimal text, two digits at a time.
-use mathlib.Core.Path.{◌≡◌, refl, sym, ap, ◌∙◌}
-use mathlib.Core.Bool.{Bool, true, false, cond, and-false}
+use mathlib.Core.Path.{◌≡◌, refl, sym, ap}
+use mathlib.Core.Bool.{true, false, and-false}
 use mathlib.Core.List.{List, [], ◌∷◌}
-use Prim.Native.Nat.{ℕ, zero, suc, ◌+◌, ◌*◌, ◌-◌, ◌/◌, ◌%◌, ◌≤◌, ◌<◌}
+use Prim.Native.Nat.{ℕ, zero, suc, ◌+◌, ◌*◌, ◌-◌, ◌/◌, ◌%◌, ◌<◌}
 use native.Mathlib.Nat.{mul-suc}
 use native.Mathlib.Omega.{arith}
 use lib.Dec.{ltb}
@@ -10,9 +10,8 @@ use lib.ListN.{length, get_or, take, drop}
 use borrow.Author.Tests.{ltb-true, lt-ltb}
 use Rattle.std.specs.List.{list_all}
 use Rattle.laws.specs.Lists.{all_of}
-use Rattle.laws.proofs.Tests.{never, ne_true, both, and_left, and_right, within_true, within_above, within_bounds}
-use Rattle.laws.specs.Tests.{within}
-use Rattle.laws.proofs.Lists.{decide, all_true}
+use Rattle.laws.proofs.Tests.{never, both, and_left, and_right}
+use Rattle.laws.proofs.Lists.{all_true}
 use Rattle.laws.proofs.Pieces.{pieces_length}
 use Rattle.line.specs.Hex.{digit_of, is_digit, is_hex, hex_bytes, hex_pair, hex_text}
 

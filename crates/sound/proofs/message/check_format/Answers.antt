@@ -1,11 +1,9 @@
 -- `sound::check_format` meets its contract: what each test that fails came to.
-use mathlib.Core.Path.{◌≡◌, ap, ◌∙◌}
-use mathlib.Core.Bool.{Bool, false, ◌&&◌, cond}
+use mathlib.Core.Path.{◌≡◌, ◌∙◌}
+use mathlib.Core.Bool.{false}
 use Prim.Native.Nat.{ℕ}
 use lib.Dec.{leb}
 use Rattle.std.proofs.Common.{is_le, nat_cmp, rules, tests}
-use Rattle.std.proofs.lemmas.Bool.Decides.{nat_tests}
-use Rattle.std.specs.Range.{range_inclusive_start, range_inclusive_end, range_inclusive_exhausted, range_inclusive_contains}
 use Rattle.laws.specs.Tests.{within}
 use Rattle.laws.specs.InOrder.{first_hit}
 use Rattle.laws.proofs.Tests.{was_true, was_false}
