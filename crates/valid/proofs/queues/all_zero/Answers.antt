@@ -15,5 +15,5 @@ use Rattle.valid.proofs.queues.all_zero.Goals as goal
 pub returns : goal.returns
 unfolding same zeros
 returns c =
-    fold_over fronts (λ y. y.now) _ (λ l z. z ≡ same l (zeros (length l))) _ (λ l a x b f j k. (zero_more l x.now j (let m = k.met in ?), search (rules, tests)))
+    fold_over fronts (λ y. y.now) _ (λ l z. z ≡ same l (zeros (length l))) _ (λ l a x b f j k. (zero_more l x.now j (search (rules, tests)), search (rules, tests)))
     c.iter.result c.args.s.now true _ (YieldsList-from_slice {s = c.iter.result} _ c.iter.ensures.rest).runs refl c.fold.ensures.ran
