@@ -6,6 +6,9 @@ use checker::{Checker, WrongLine};
 use std::io;
 use std::io::{Read, Write};
 
+// Room for the line of a verdict, which has 37 bytes at most: the number of a line has up to 20 digits.
+const VERDICT_ROOM: usize = 64;
+
 // Why no verdict was given.
 #[derive(Clone, Copy, Debug, PartialEq, Eq)]
 enum Failure {
@@ -54,7 +57,7 @@ fn write_verdict(output: &mut impl Write, verdict: Result<(), WrongLine>) -> io:
     let Err(wrong) = verdict else {
         return output.write_all(b"accepted\n");
     };
-    let mut line = [0u8; 64];
+    let mut line = [0u8; VERDICT_ROOM];
     let mut rest = &mut line[..];
     writeln!(rest, "{wrong}")?;
     let left = rest.len();
