@@ -8,7 +8,7 @@ use borrow.Author.Tests.{lt-ltb, le-ltb, ne_eqb, eq-eqb}
 use lib.Dec.{eqb, ltb}
 use lib.ListN.{length, take, drop, drop_of_length-le}
 use native.Mathlib.Decide.{dec_lt}
-use Rattle.std.specs.Prelude.{cond, Option, None, Some, position}
+use Rattle.std.specs.Prelude.{cond, None, Some, position}
 use Rattle.std.specs.Bool.{then_some}
 use Rattle.std.specs.List.{slice_get, position_or_len}
 use Rattle.std.proofs.lemmas.Option.{slice_get-map, slice_get-get_or, slice_get_past}
@@ -68,17 +68,18 @@ pub utf8_end : (s : List ℕ) (i n lo hi : ℕ) → length s ≤ i → utf8_afte
 unfolding utf8_after
 utf8_end s i n lo hi h = rw (drop_of_length-le s h)
 
-none_same : ◌≡◌ {A = Option ℕ} None None
-none_same = refl
-
 -- the length of a tag, by the place of its first NUL
 module _ (t : List ℕ) where
+  bad_length : good_tag t ≡ false → None ≡ tag_length t
+  unfolding tag_length
+  bad_length h = ap (λ g. cond g (Some (nul_at t)) None) (sym h)
+
   pub tag_without_nul : position (λ b. eqb b 0) t ≡ None → None ≡ tag_length t
-  unfolding tag_length good_tag
+  unfolding good_tag
   tag_without_nul e = decide (ltb (nul_at t) (length t))
       (λ h. let k : ltb (position_or_len (λ b. eqb b 0) t) (length t) ≡ true = rw (← (nul_place t)) h in
       let w : Some (position_or_len (λ b. eqb b 0) t) ≡ None = rw k at e in cc)
-      (λ h. rw h none_same)
+      (λ h. bad_length (rw h))
 
   pub tag_by_nul : (n : ℕ) → position (λ b. eqb b 0) t ≡ Some n → then_some (utf8 (take n t)) n ≡ tag_length t
   unfolding tag_length good_tag

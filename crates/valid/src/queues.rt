@@ -1,5 +1,5 @@
 // Whether words stand for a queue, and whether the queue keeps the rules.
-ghost use Rattle.std.specs.Prelude.{◌≡◌, ◌&&◌, length};
+ghost use Rattle.std.specs.Prelude.{◌≡◌, ◌==◌, ◌&&◌, length};
 ghost use Rattle.laws.specs.Lists.{same};
 ghost use Rattle.laws.specs.Parts.{zeros};
 ghost use Rattle.model.specs.Device.{Queue};
@@ -18,7 +18,12 @@ use queue::{
 pub fn all_zero(s: &[u32]) -> bool
     ensures { result ≡ same s.now (zeros (length s.now)) }
 {
-    s.iter().fold(true, |zero, w| zero & (*w == 0))
+    s.iter().fold(
+        true,
+        |zero, w|
+            ensures { result ≡ (zero && (w.now == 0)) }
+        { zero & (*w == 0) },
+    )
 }
 
 // Whether five words are those of the slot that they stand for.
