@@ -15,6 +15,7 @@ use queue::{
 };
 
 // Whether all words are zero. It never stops early, so that the compiler takes several words at once.
+// The step states what it gives: a wrong one is refused there, and not in a search of the caller's.
 pub fn all_zero(s: &[u32]) -> bool
     ensures { result ≡ same s.now (zeros (length s.now)) }
 {

@@ -1,4 +1,5 @@
 -- `replay::feed` meets its contract: a line that has not ended is kept, one that has is stepped.
+-- The first answer is the one whose error shows both lines where another than the one that was kept is stepped.
 use Rattle.table.specs.Blocks.{layout}
 use Rattle.replay.proofs.Steps.{call_open, call_ended, used_some}
 use Rattle.replay.proofs.feed.Goals as goal

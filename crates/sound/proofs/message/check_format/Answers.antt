@@ -24,7 +24,7 @@ in_range : (r : RangeInclusive ℕ) (x lo hi : ℕ) → range_inclusive_start r 
 unfolding within
 in_range r x lo hi s e unspent = rw (s, e, unspent, le_test, le_test)
 
--- the channels are the configured ones
+-- the channels are the configured ones. Each answer hands in what the test and the read gave, so that a wrong one is met where it is named.
 channels_tested : (c : After-contains) {x : ℕ} → c.contains.result ≡ range_inclusive_contains (λ a b. Some (nat_cmp a b)) c.new-taken.result x
     → x ≡ channels_in c.args.message.now → c.contains.result ≡ within (channels_in c.args.message.now) c.args.config.channels_min c.args.config.channels_max
 channels_tested c contained read =
